@@ -1,0 +1,4 @@
+pub mod Walking
+pub mod Reading
+pub mod Writing
+pub mod Copying

@@ -1,0 +1,127 @@
+-- The writer's two loops: while it checks its list, and while it writes the bytes. And what the writer gives and leaves.
+-- Assumes nothing.
+use Prim.Native.Nat.{ℕ, zero, suc, _+_, _*_, _≤_, _<_}
+use mathlib.Core.Path.{_≡_, refl, sym, ap, _∙_}
+use mathlib.Core.List.{List, [], _∷_, _++_}
+use native.Mathlib.Nat.{add-zero, zero-add}
+use native.Mathlib.Numerals.{add-one}
+use native.Mathlib.Omega.{arith}
+use lib.ListN.{length, getD, take, drop, set, length-append, drop-of-length-le}
+use lib.Seq.{sets, length-sets, sets-eq, take-suc}
+use borrow.Author.Tests.{lt-ltb, le-ltb}
+use Rattle.numbers.specs.Seven.{encode}
+use Rattle.numbers.specs.SevenLaws.{encode-few}
+use Rattle.sheet.specs.declared.Seen.{Seen}
+use Rattle.sheet.specs.declared.Step.the-variants.{Value, Stop, End}
+use Rattle.sheet.specs.declared.Outcome.{Outcome}
+use Rattle.sheet.specs.declared.Outcome.the-variants.{Done, Refused}
+use Rattle.sheet.specs.declared.Why.{Why}
+use Rattle.sheet.specs.declared.Why.the-variants.{Short}
+use Rattle.sheet.specs.Rule.{ruleAt, seenAfter}
+use Rattle.sheet.specs.Sheet.{Found, fail, these, stepOn, entryAt, listOf, nothing, encodeAll, writeGives, writeHolds}
+use Rattle.sheet.specs.Inside.{checked}
+use Rattle.sheet.specs.StepLaws.{Gave, step-gave, Entry, entry-was}
+use Rattle.sheet.specs.EncodeLaws.{encode-next, length-next}
+use Rattle.sheet.specs.WalkLaws.{list-whole}
+use Rattle.sheet.proofs.Walking.{Walking, begin, turn, finished}
+
+-- the check: the numbers passed are the front of the list, and their bytes are counted
+pub record Listing (xs : List ℕ) (e : Seen) (i total : ℕ) : Type 0 where
+  pub walking : Walking (entryAt xs) (length xs) (listOf xs) (take i xs) e i i
+  pub count : total ≡ length (encodeAll (take i xs))
+  pub cap : total ≤ 5 * i
+
+pub begin-listing : (xs : List ℕ) → Listing xs nothing 0 0
+unfolding listOf
+begin-listing xs = record { walking = begin (entryAt xs) (length xs); count = refl; cap = omega arith }
+
+pub listed : {xs : List ℕ} {e : Seen} {i total : ℕ} (x next : ℕ) → Listing xs e i total → stepOn (entryAt xs i) (length xs) i (ruleAt i e) ≡ Value x next → Entry xs i x next
+listed {xs} {e} {i} {total} x next g t =
+    let v : Gave (entryAt xs i) (ruleAt i e) x next = step-gave (entryAt xs i) (length xs) i (ruleAt i e) x next t in
+    entry-was xs i x next (v .read)
+
+pub turn-listing : {xs : List ℕ} {e : Seen} {i total : ℕ} (x next : ℕ) → Listing xs e i total
+    → stepOn (entryAt xs i) (length xs) i (ruleAt i e) ≡ Value x next → Listing xs (seenAfter e i x) next (total + length (encode x))
+turn-listing {xs} {e} {i} {total} x next g t =
+    let k : Entry xs i x next = listed x next g t in
+    let f : take (i + 1) xs ≡ take i xs ++ (x ∷ []) = rw (add-one i, take-suc xs i 0 (k .inside), k .value) in
+    let w : Walking (entryAt xs) (length xs) (listOf xs) (take (i + 1) xs) (seenAfter e i x) next (i + 1) = rw f (turn x next (g .walking) t) in
+    rw (k .place)
+    (record {
+      walking = rw (k .place) at w;
+      count = rw (length-next xs i (k .inside), g .count, k .value);
+      cap = omega (arith, g .cap, encode-few x);
+    })
+
+pub finished-listing : {xs : List ℕ} {e : Seen} {i total : ℕ} → Listing xs e i total → stepOn (entryAt xs i) (length xs) i (ruleAt i e) ≡ End
+    → Done total ≡ checked (listOf xs)
+finished-listing {xs} {e} {i} {total} g t = rw (finished (g .walking) t, g .count)
+
+-- the bytes: what is left to write is the bytes of the numbers from i on
+pub record Filling (first xs buf : List ℕ) (at i : ℕ) : Type 0 where
+  pub few : i ≤ length xs
+  pub place : at + length (encodeAll (drop i xs)) ≡ length (encodeAll xs)
+  pub same : sets first 0 (encodeAll xs) ≡ sets buf at (encodeAll (drop i xs))
+  pub long : length buf ≡ length first
+
+pub begin-filling : (first xs : List ℕ) → Filling first xs first 0 0
+begin-filling first xs = record { few = omega arith; place = omega arith; same = refl; long = refl }
+
+sets-append : (l : List ℕ) (i : ℕ) (a b : List ℕ) → sets l i (a ++ b) ≡ sets (sets l i a) (i + length a) b
+sets-append l i [] b = rw (add-zero i)
+sets-append l i (x ∷ a) b = let e : suc i + length a ≡ i + suc (length a) = omega arith in sets-append (set l i x) (suc i) a b ∙ rw e
+
+module _ {first xs buf : List ℕ} {at i : ℕ} where
+  pub fits : Filling first xs buf at i → i < length xs → length (encodeAll xs) ≤ length first → at + length (encode (getD xs i 0)) ≤ length buf
+  fits g h r =
+      let e : length (encodeAll (drop i xs)) ≡ length (encode (getD xs i 0)) + length (encodeAll (drop (i + 1) xs)) = rw (encode-next xs i h, length-append) in
+      omega (arith, g .place, g .long)
+
+  pub turn-filling : {buf′ : List ℕ} {at′ : ℕ} → Filling first xs buf at i → i < length xs → buf′ ≡ sets buf at (encode (getD xs i 0))
+      → at′ ≡ at + length (encode (getD xs i 0)) → Filling first xs buf′ at′ (i + 1)
+  turn-filling {buf′} {at′} g h b a =
+      let e : length (encodeAll (drop i xs)) ≡ length (encode (getD xs i 0)) + length (encodeAll (drop (i + 1) xs)) = rw (encode-next xs i h, length-append) in
+      record {
+        few = omega arith;
+        place = omega (arith, g .place);
+        same = g .same ∙ rw (encode-next xs i h, sets-append, ← b, ← a);
+        long = rw b (length-sets buf at (encode (getD xs i 0)) ∙ g .long);
+      }
+
+  pub filled : Filling first xs buf at i → length xs ≤ i → buf ≡ sets first 0 (encodeAll xs)
+  filled g h = sym (g .same ∙ rw (drop-of-length-le xs h))
+
+-- a list that is a sheet, and the length of its bytes
+pub record Sized (xs : List ℕ) (n : ℕ) : Type 0 where
+  pub is : listOf xs ≡ these xs
+  pub count : n ≡ length (encodeAll xs)
+
+sized-by : (f : Found) (n : ℕ) → Done n ≡ checked f → (ys : List ℕ) × ((f ≡ these ys) × (n ≡ length (encodeAll ys)))
+sized-by (fail w d) n e = let q : _≡_ {A = ℕ} 0 1 = cc in absurd (omega arith)
+sized-by (these ys) n e = (ys, (refl, cc))
+
+pub sized : (xs : List ℕ) (n : ℕ) (r : Outcome) → r ≡ checked (listOf xs) → r ≡ Done n → Sized xs n
+sized xs n r e q =
+    let a = sized-by (listOf xs) n (sym q ∙ e) in
+    let y : a .0 ≡ xs = list-whole xs (a .0) (a .1 .0) in
+    record { is = a .1 .0 ∙ ap these y; count = a .1 .1 ∙ ap (λ (l : List ℕ). length (encodeAll l)) y }
+
+pub short-writing : (xs : List ℕ) (n : ℕ) (buf : List ℕ) → Sized xs n → length buf < n
+    → (Refused Short n ≡ writeGives (listOf xs) (length buf)) × (buf ≡ writeHolds (listOf xs) buf)
+short-writing xs n buf w h =
+    let l = lt-ltb (length buf) n h in
+    (rw (w .is, ← w .count, l), rw (w .is, ← w .count, l))
+
+pub full-writing : (xs : List ℕ) (n : ℕ) (buf : List ℕ) → Sized xs n → n ≤ length buf
+    → (Done n ≡ writeGives (listOf xs) (length buf)) × (sets buf 0 (encodeAll xs) ≡ writeHolds (listOf xs) buf)
+full-writing xs n buf w h =
+    let l = le-ltb (length buf) n h in
+    (rw (w .is, ← w .count, l), rw (w .is, ← w .count, l) (sets-eq (encodeAll xs) buf 0 (omega (arith, w .count)) ∙ rw (zero-add, ← w .count)))
+
+pub stopped-writing : (xs : List ℕ) (r : Outcome) (w : Why) (d : ℕ) (buf : List ℕ) → r ≡ checked (listOf xs) → r ≡ Refused w d
+    → (Refused w d ≡ writeGives (listOf xs) (length buf)) × (buf ≡ writeHolds (listOf xs) buf)
+stopped-writing xs r w d buf e q = stopped-by (listOf xs) (sym q ∙ e)
+  where
+    stopped-by : (f : Found) → Refused w d ≡ checked f → (Refused w d ≡ writeGives f (length buf)) × (buf ≡ writeHolds f buf)
+    stopped-by (fail w′ d′) e = (e, refl)
+    stopped-by (these ys) e = let q : _≡_ {A = ℕ} 0 1 = cc in absurd (omega arith)

@@ -1,0 +1,97 @@
+-- `sheet::numbers_of` meets its contract. The invariant (`Reading`): what the sheet is read as is the numbers passed, which stand at
+-- the front of the array, put before what is read from here. The measure is how many steps are left.
+-- Assumes nothing.
+use Prim.Native.Nat.{_+_, _-_, _<_}
+use mathlib.Core.Path.{_≡_, refl, sym, _∙_}
+use native.Mathlib.Omega.{arith}
+use lib.ListN.{length}
+use borrow.Author.Needs.{needs}
+use Rattle.numbers.specs.Seven.{numberAt}
+use Rattle.sheet.specs.Rule.{most, ruleAt}
+use Rattle.sheet.specs.Sheet.{stepOn}
+use Rattle.sheet.proofs.Walking.{room, refused, finished}
+use Rattle.sheet.proofs.Reading.{Reading, begin-reading, turn-reading}
+use Rattle.sheet.proofs.numbers_of.Statement.{statement}
+use Rattle.sheet.proofs.numbers_of.Tie as tie
+
+abbrev Inv-loop : tie.InvT-loop
+Inv-loop bytes values₀ seen₀ at₀ i₀ values seen at i = Reading bytes values seen at i
+
+abbrev μ-loop : tie.MeasureT-loop
+μ-loop bytes values₀ seen₀ at₀ i₀ values seen at i = most + 1 - i
+
+-- the step of a turn, by its place and what is known there
+stepped : (c : tie.After-step-on Inv-loop μ-loop)
+    → stepOn (numberAt (c .before .before .before .before .before .args .bytes .now) (c .before .before .before .loop .at)) (length (c .before .before .before .before .before .args .bytes .now)) (c .before .before .before .loop .at) (ruleAt (c .before .before .before .loop .i) (c .before .before .before .loop .seen))
+    ≡ c .step-on .result
+stepped c = sym (c .step-on .ensures ∙ rw (c .before .rule-at .ensures, c .before .before .read-number .ensures))
+
+below : (c : tie.After-x Inv-loop μ-loop) → c .before .before .before .before .before .loop .i < most
+below c = room _ _ (c .before .before .before .before .before .loop .inv .walking) (stepped (c .before .before) ∙ c .x .given .1)
+
+loop-holds : tie.Need-loop-holds Inv-loop μ-loop
+loop-holds c = begin-reading (c .before .args .bytes .now) _ refl
+
+read-number-requires : tie.Need-read-number-requires Inv-loop μ-loop
+read-number-requires c κs = search needs
+
+rule-at-requires : tie.Need-rule-at-requires Inv-loop μ-loop
+rule-at-requires c κs = search needs
+
+step-on-requires : tie.Need-step-on-requires Inv-loop μ-loop
+step-on-requires c κs = search needs
+
+enum-known-x : tie.Need-enum-known-x Inv-loop μ-loop
+enum-known-x c = search needs
+
+mul-values : tie.Need-mul-values Inv-loop μ-loop
+mul-values c = omega (arith, below (c .before))
+
+array-write-values : tie.Need-array-write-values Inv-loop μ-loop
+array-write-values c = below (c .before)
+
+after-requires : tie.Need-after-requires Inv-loop μ-loop
+after-requires c κs = search needs
+
+add-i : tie.Need-add-i Inv-loop μ-loop
+add-i c = omega (arith, below (c .before .before))
+
+loop-less : tie.Need-loop-less Inv-loop μ-loop
+loop-less c = omega (arith, below (c .before .before))
+
+loop-again : tie.Need-loop-again Inv-loop μ-loop
+loop-again c = rw (c .after .ensures) (turn-reading _ _ (c .before .before .before .before .before .before .before .loop .inv) (stepped (c .before .before .before .before) ∙ c .before .before .x .given .1))
+
+enum-known-why : tie.Need-enum-known-why Inv-loop μ-loop
+enum-known-why c = search needs
+
+returns : tie.Need-returns Inv-loop μ-loop
+returns c = (sym (refused _ _ (c .before .before .before .before .before .before .loop .inv .walking) (stepped (c .before .before .before) ∙ c .before .why .given .1)), (omega arith, c .before .before .before .before .before .before .loop .inv .long))
+
+enum-told : tie.Need-enum-told Inv-loop μ-loop
+enum-told c = search needs
+
+returns-2 : tie.Need-returns-2 Inv-loop μ-loop
+returns-2 c = (sym (finished (c .before .before .before .before .before .loop .inv .walking) (stepped (c .before .before) ∙ c .enum-told .given .1)), (omega (arith, c .before .before .before .before .before .loop .inv .walking .turns), c .before .before .before .before .before .loop .inv .long))
+
+pub numbers-of-spec : {M : Type 1} → statement M
+numbers-of-spec =
+    tie.close
+    (tie.spec
+    Inv-loop
+    μ-loop
+    loop-holds
+    read-number-requires
+    rule-at-requires
+    step-on-requires
+    enum-known-x
+    mul-values
+    array-write-values
+    after-requires
+    add-i
+    loop-less
+    loop-again
+    enum-known-why
+    returns
+    enum-told
+    returns-2)

@@ -1,0 +1,63 @@
+-- Laws of a walk over the fields: how a walk that gives numbers gave the first of them, and that a list that is a sheet is taken whole.
+-- Assumes nothing.
+use Prim.Native.Nat.{ℕ, zero, suc, _+_, _≤_, _<_}
+use mathlib.Core.Path.{_≡_, refl, sym, ap, _∙_}
+use mathlib.Core.List.{List, [], _∷_, _++_}
+use mathlib.Core.Bool.{true}
+use native.Mathlib.Numerals.{add-one}
+use native.Mathlib.Omega.{arith}
+use lib.ListN.{length, getD, drop, drop-of-length-le}
+use lib.Seq.{drop-cons}
+use Rattle.numbers.specs.declared.Got.{Got}
+use Rattle.sheet.specs.declared.Seen.{Seen}
+use Rattle.sheet.specs.declared.Step.{Step}
+use Rattle.sheet.specs.declared.Step.the-variants.{Value, Stop, End}
+use Rattle.sheet.specs.declared.Why.{Why}
+use Rattle.sheet.specs.Rule.{most, ruleAt, seenAfter, isPast}
+use Rattle.sheet.specs.Sheet.{Found, fail, these, also, onStep, stepOn, walk, nothing, entryAt, listOf}
+use Rattle.sheet.specs.StepLaws.{Gave, step-gave, step-ended, Entry, entry-was}
+
+-- A walk that gives numbers either gave the first and goes on behind it, or ended here with none.
+pub data Walked (source : ℕ → Got) (size k at i : ℕ) (e : Seen) (ys : List ℕ) : Type 0 where
+  gave : (x next : ℕ) (zs : List ℕ) → Gave (source at) (ruleAt i e) x next → ys ≡ x ∷ zs
+      → walk source size k next (i + 1) (seenAfter e i x) ≡ these zs → Walked source size k at i e ys
+  ended : ys ≡ [] → isPast (ruleAt i e) ≡ true → size ≤ at → Walked source size k at i e ys
+
+also-these : (x : ℕ) (f : Found) (ys : List ℕ) → also x f ≡ these ys → (zs : List ℕ) × ((f ≡ these zs) × (ys ≡ x ∷ zs))
+also-these x (fail w d) ys e = let q : _≡_ {A = ℕ} 0 1 = cc in absurd (omega arith)
+also-these x (these zs) ys e = (zs, (refl, cc))
+
+walked-by : (st : Step) (source : ℕ → Got) (size k at i : ℕ) (e : Seen) (ys : List ℕ) → stepOn (source at) size at (ruleAt i e) ≡ st
+    → onStep st (λ x next. also x (walk source size k next (i + 1) (seenAfter e i x))) ≡ these ys → Walked source size k at i e ys
+walked-by (Value x next) source size k at i e ys s h =
+    let a = also-these x (walk source size k next (i + 1) (seenAfter e i x)) ys h in
+    gave x next (a .0) (step-gave (source at) size at (ruleAt i e) x next s) (a .1 .1) (a .1 .0)
+walked-by (Stop w d) source size k at i e ys s h = let q : _≡_ {A = ℕ} 0 1 = cc in absurd (omega arith)
+walked-by End source size k at i e ys s h =
+    let n : ys ≡ [] = cc in
+    let t = step-ended (source at) size at (ruleAt i e) s in
+    ended n (t .0) (t .1)
+
+pub walked : (source : ℕ → Got) (size k at i : ℕ) (e : Seen) (ys : List ℕ) → walk source size (suc k) at i e ≡ these ys → Walked source size k at i e ys
+walked source size k at i e ys h = walked-by (stepOn (source at) size at (ruleAt i e)) source size k at i e ys refl h
+
+pub walk-none : (source : ℕ → Got) (size at i : ℕ) (e : Seen) (ys : List ℕ) → walk source size 0 at i e ≡ these ys → ⊥
+walk-none source size at i e ys h = let q : _≡_ {A = ℕ} 0 1 = cc in omega arith
+
+-- A list that is a sheet is taken whole.
+rest-by : (k : ℕ) (xs : List ℕ) (i : ℕ) (e : Seen) (ys : List ℕ) → Walked (entryAt xs) (length xs) k i i e ys
+    → ((zs : List ℕ) (e′ : Seen) → walk (entryAt xs) (length xs) k (i + 1) (i + 1) e′ ≡ these zs → zs ≡ drop (i + 1) xs) → ys ≡ drop i xs
+rest-by k xs i e ys (gave x next zs v y w) go =
+    let t : Entry xs i x next = entry-was xs i x next (v .read) in
+    let z : zs ≡ drop (i + 1) xs = go zs (seenAfter e i x) (rw (t .place) at w) in
+    y ∙ rw (z, add-one i, t .value, drop-cons xs i 0 (t .inside))
+rest-by k xs i e ys (ended y p h) go = y ∙ sym (drop-of-length-le xs h)
+
+rest : (k : ℕ) (xs : List ℕ) (i : ℕ) (e : Seen) (ys : List ℕ) → walk (entryAt xs) (length xs) k i i e ≡ these ys → ys ≡ drop i xs
+rest zero xs i e ys w = absurd (walk-none (entryAt xs) (length xs) i i e ys w)
+rest (suc k) xs i e ys w =
+    rest-by k xs i e ys (walked (entryAt xs) (length xs) k i i e ys w) (λ zs e′ h. rest k xs (i + 1) e′ zs h)
+
+pub list-whole : (xs ys : List ℕ) → listOf xs ≡ these ys → ys ≡ xs
+unfolding listOf
+list-whole xs ys e = rest (suc most) xs 0 nothing ys e
