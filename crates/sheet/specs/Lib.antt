@@ -5,3 +5,8 @@ pub mod Inside
 pub mod StepLaws
 pub mod WalkLaws
 pub mod EncodeLaws
+pub mod Valid
+pub mod ValidLaws
+pub mod TripLaws
+pub mod SizeLaws
+pub mod FrontLaws
