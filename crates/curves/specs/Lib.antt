@@ -1,0 +1,10 @@
+pub mod Slots
+pub mod Curve
+pub mod Held
+pub mod SlotsLaws
+pub mod StageLaws
+pub mod CurveLaws
+pub mod JoinLaws
+pub mod RemainderLaws
+pub mod DelayLaws
+pub mod HeldLaws
