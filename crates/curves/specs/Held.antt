@@ -45,7 +45,7 @@ pub record Leaves (σ ρ x : ℕ) (s : Stage) : Type 0 where
   pub fits : line x s < 2 ^ 63
 
 -- a record whose stages are all in range, and its offset too
-pub record Sound (c : Curve) : Type 0 where
+pub record InRange (c : Curve) : Type 0 where
   pub few : c .count ≤ 16
   pub near : c .offset < 2 ^ 62
   pub live : All Live (shapeOf c .stages)

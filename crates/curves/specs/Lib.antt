@@ -8,3 +8,5 @@ pub mod JoinLaws
 pub mod RemainderLaws
 pub mod DelayLaws
 pub mod HeldLaws
+pub mod Unique
+pub mod Figures

@@ -4,7 +4,7 @@ ghost use mathlib.Core.Path.{_≡_};
 ghost use Prim.Native.Nat.{_+_, _-_, _≤_, _<_, _^_, max};
 ghost use lib.ListN.{drop, replicate};
 ghost use Rattle.curves.specs.Curve.{All, neutral, server, joined, after, remainder, catchUp, leastWait, delay};
-ghost use Rattle.curves.specs.Held.{shapeOf, spare, Holds, blank, Live, Leaves, Sound};
+ghost use Rattle.curves.specs.Held.{shapeOf, spare, Holds, blank, Live, Leaves, InRange};
 
 // A line that begins at `burst` bytes and rises by `rate` a slot.
 pub struct Stage {
@@ -95,7 +95,7 @@ impl Curve {
 
     // The least wait for a group with burst `sigma`.
     pub fn least_wait(self, sigma: u64) -> u64
-        requires { ⌜ Sound self × (sigma < 2 ^ 40) ⌝ }
+        requires { ⌜ InRange self × (sigma < 2 ^ 40) ⌝ }
         ensures { λ r. ⌜ r ≡ leastWait (shapeOf self) sigma ⌝ }
     {
         let n = self.count;
@@ -129,7 +129,7 @@ impl Curve {
 
     // The delay of a bucket (sigma, rho): one slot less than the least wait for what it may send in its first slot.
     pub fn delay(self, sigma: u64, rho: u64) -> u64
-        requires { ⌜ Sound self × (sigma + rho < 2 ^ 40) ⌝ }
+        requires { ⌜ InRange self × (sigma + rho < 2 ^ 40) ⌝ }
         ensures { λ r. ⌜ r ≡ delay (shapeOf self) sigma rho ⌝ }
     {
         let wait = self.least_wait(sigma + rho);
