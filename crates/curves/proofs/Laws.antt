@@ -1,7 +1,7 @@
 -- Laws of a list whose first i elements have been mapped in place.
 -- Assumes nothing.
 use mathlib.Core.Path.{_≡_, _∙_}
-use mathlib.Core.List.{List, _∷_, _++_, map, map-append, append-assoc}
+use mathlib.Core.List.{List, _++_, map, map-append, append-assoc}
 use Prim.Native.Nat.{ℕ, suc, _+_, _<_}
 use native.Mathlib.Numerals.{add-one}
 use native.Mathlib.Omega.{arith}

@@ -6,7 +6,7 @@ use mathlib.Core.List.{List, [], _∷_, _++_, map}
 use mathlib.Core.Logic.{_⊎_}
 use Prim.Native.Nat.{ℕ, _+_, _-_, _*_, _/_, _≤_, _<_, min, max}
 use Rattle.curves.specs.declared.Stage.{Stage}
-use Rattle.curves.specs.Slots.{past}
+use Rattle.curves.specs.Slots.{zeroUpTo}
 
 -- "A curve (003, pseudoaffine) is an offset D and stages (b, r)"
 pub record Shape : Type 0 where
@@ -25,7 +25,7 @@ leastLine x (s ∷ g ∷ l) = min (line x s) (leastLine x (g ∷ l))
 
 -- "0 for t ≤ D, otherwise the least of b + r·(t − D)"
 unfoldable pub valueAt : Shape → ℕ → ℕ
-valueAt c t = past (c .offset) t (leastLine (t - c .offset) (c .stages))
+valueAt c t = zeroUpTo (c .offset) t (leastLine (t - c .offset) (c .stages))
 
 -- "A server is offset T with one stage (0, R)."
 unfoldable pub server : ℕ → ℕ → Shape

@@ -1,25 +1,25 @@
 -- The value of a curve and "at most the value" are the same; and what the least wait is the least of.
 -- Assumes nothing.
 use mathlib.Core.Path.{_≡_}
-use mathlib.Core.List.{List, [], _∷_, _++_}
+use mathlib.Core.List.{List, [], _∷_}
 use mathlib.Core.Logic.{_⊎_, inl, inr}
-use Prim.Native.Nat.{ℕ, zero, suc, _+_, _-_, _*_, _≤_, _<_, min}
+use Prim.Native.Nat.{ℕ, _+_, _-_, _*_, _≤_, _<_}
 use native.Mathlib.Nat.{mul-zero, zero-add}
 use native.Mathlib.Omega.{arith}
 use lib.ListN.{length}
 use Rattle.curves.specs.declared.Stage.{Stage}
-use Rattle.curves.specs.Slots.{serve, past}
-use Rattle.curves.specs.Curve.{Shape, line, leastLine, valueAt, server, catchUp, greatest, leastWait, All, Rates, Below, Under}
-use Rattle.curves.specs.SlotsLaws.{le-or-lt, past-before, past-after}
-use Rattle.curves.specs.StageLaws.{all-both, greatest-le, le-greatest, catch-up-enough, catch-up-least}
+use Rattle.curves.specs.Slots.{serve}
+use Rattle.curves.specs.Curve.{Shape, line, leastLine, valueAt, server, catchUp, leastWait, Rates, Below, Under}
+use Rattle.curves.specs.SlotsLaws.{le-or-lt, zero-before, zero-after}
+use Rattle.curves.specs.StageLaws.{all-weaken, all-both, greatest-le, le-greatest, catch-up-enough, catch-up-least, catch-up-le}
 
 pub value-before : (c : Shape) (t : ℕ) → t ≤ c .offset → valueAt c t ≡ 0
 unfolding valueAt
-value-before c t h = past-before (c .offset) t _ h
+value-before c t h = zero-before (c .offset) t _ h
 
 pub value-after : (c : Shape) (t : ℕ) → c .offset < t → valueAt c t ≡ leastLine (t - c .offset) (c .stages)
 unfolding valueAt
-value-after c t h = past-after (c .offset) t _ h
+value-after c t h = zero-after (c .offset) t _ h
 
 pub below-of-least : (v x : ℕ) (l : List Stage) → v ≤ leastLine x l → Below v x l
 unfolding leastLine
@@ -58,6 +58,15 @@ server-is-serve R T t = go (le-or-lt t T)
 pub wait-after-offset : (c : Shape) (σ : ℕ) → c .offset ≤ leastWait c σ
 unfolding leastWait
 wait-after-offset c σ = omega arith
+
+-- with a rate of at least one byte a slot, no more slots than bytes
+pub wait-le : (c : Shape) (σ : ℕ) → Rates 1 (c .stages) → leastWait c σ ≤ c .offset + σ
+unfolding leastWait
+wait-le c σ p =
+    omega (
+      arith,
+      greatest-le (catchUp σ) σ (c .stages) (all-weaken (λ s. 1 ≤ s .rate) (λ s. catchUp σ s ≤ σ) (c .stages) (catch-up-le σ) p),
+    )
 
 pub wait-enough : (c : Shape) (σ θ : ℕ) → Rates 1 (c .stages) → leastWait c σ ≤ θ → Below σ (θ - c .offset) (c .stages)
 unfolding leastWait

@@ -1,7 +1,7 @@
 -- The delay of a bucket over a curve is the least d such that the bucket at s is at most the curve at s + d, for every s.
 -- Assumes nothing.
 use mathlib.Core.Path.{_≡_}
-use mathlib.Core.List.{List, [], _∷_}
+use mathlib.Core.List.{List}
 use mathlib.Core.Logic.{_⊎_, inl, inr}
 use Prim.Native.Nat.{ℕ, zero, suc, _+_, _*_, _-_, _≤_, _<_}
 use native.Mathlib.Nat.{mul-le-mul-right}
@@ -9,10 +9,10 @@ use native.Mathlib.Omega.{arith}
 use lib.ListN.{length}
 use Rattle.curves.specs.declared.Stage.{Stage}
 use Rattle.curves.specs.Slots.{bucket, Covers, Least}
-use Rattle.curves.specs.Curve.{Shape, line, leastLine, valueAt, catchUp, greatest, leastWait, lateness, delay, Rates, Below, Under}
+use Rattle.curves.specs.Curve.{Shape, line, leastLine, valueAt, catchUp, leastWait, lateness, delay, Rates, Below, Under}
 use Rattle.curves.specs.SlotsLaws.{le-or-lt}
 use Rattle.curves.specs.StageLaws.{all-weaken, all-both, greatest-pred, lateness-is, below-mono}
-use Rattle.curves.specs.CurveLaws.{value-before, value-after, below-of-least, value-of-under, wait-after-offset, wait-enough, wait-least}
+use Rattle.curves.specs.CurveLaws.{value-before, value-after, below-of-least, value-of-under, wait-after-offset, wait-le, wait-enough, wait-least}
 
 -- the delay lies one slot before the least wait for what the bucket may send in its first slot, but not before the offset
 pub delay-by-wait : (c : Shape) (σ ρ : ℕ) → Rates 1 (c .stages) → delay c σ ρ ≡ c .offset + (leastWait c (σ + ρ) - c .offset - 1)
@@ -21,6 +21,13 @@ delay-by-wait c σ ρ p =
     let e = greatest-pred (lateness σ ρ) (catchUp (σ + ρ)) (c .stages)
     (all-weaken (λ s. 1 ≤ s .rate) (λ s. lateness σ ρ s ≡ catchUp (σ + ρ) s - 1) (c .stages) (lateness-is σ ρ) p) in
     omega arith
+
+pub delay-after-offset : (c : Shape) (σ ρ : ℕ) → c .offset ≤ delay c σ ρ
+unfolding delay
+delay-after-offset c σ ρ = omega arith
+
+pub delay-le : (c : Shape) (σ ρ : ℕ) → Rates 1 (c .stages) → delay c σ ρ ≤ c .offset + (σ + ρ)
+delay-le c σ ρ p = omega (arith, delay-by-wait c σ ρ p, wait-le c (σ + ρ) p)
 
 -- after the first slot the bucket rises no faster than any stage
 below-later : (σ ρ x y : ℕ) (l : List Stage) → Below (σ + ρ) x l → Rates ρ l → Below (σ + ρ + ρ * y) (x + y) l

@@ -2,11 +2,11 @@
 -- Assumes nothing.
 use mathlib.Core.Path.{_≡_, refl}
 use mathlib.Core.List.{List, [], _∷_, map}
-use Prim.Native.Nat.{ℕ, _+_}
+use Prim.Native.Nat.{ℕ, zero, suc, _+_}
 use native.Mathlib.Omega.{arith}
-use Rattle.curves.specs.declared.Stage.{Stage}
-use Rattle.curves.specs.Slots.{serve, lowest, conv, past, left, Covers, Least}
+use Rattle.curves.specs.Slots.{serve, lowest, conv, zeroUpTo, left, Covers, Least}
 use Rattle.curves.specs.Curve.{Shape, leastLine, valueAt, server, joined, ceil, greatest, catchUp, leastWait, remainder, lateness, delay}
+use Rattle.curves.specs.CurveLaws.{value-before, value-after}
 use Rattle.curves.specs.JoinLaws.{join-is-conv}
 use Rattle.curves.specs.RemainderLaws.{remainder-is-left}
 use Rattle.curves.specs.DelayLaws.{delay-is-least}
@@ -22,14 +22,20 @@ inner = joined (server 10 1) (after-group (server 10 1) 4 2 0)
 abbrev row8 : Shape
 row8 = joined (after-group (server 10 1) 4 2 0) (after-group inner 4 2 0)
 
--- the delays of P1, P2, P3, P5 with both its extras, P7 and P8, and the waits of P5 and P8
+-- the bounds of P1 to P3; of P4 to P7 the delay at the point that wins, and of P5 also at its other point; P8; and the waits
 pub figures :
-    delay (server 10 2) 20 5 ∷ delay (server 10 0) 5 5 ∷ delay (server 10 0) 6 5 ∷ delay (after-group (server 10 0) 10 6 0) 12 4
-    ∷ delay (after-group (server 10 0) 10 6 4) 12 4 ∷ delay (after-group (server 10 0) 10 6 1) 12 4 ∷ delay row8 6 2
-    ∷ leastWait (server 10 0) 10 ∷ leastWait (server 10 1) 4 ∷ leastWait inner 4 ∷ []
-    ≡ 4 ∷ 0 ∷ 1 ∷ 4 ∷ 5 ∷ 3 ∷ 6 ∷ 1 ∷ 2 ∷ 4 ∷ []
+    (delay (server 10 2) 20 5 ≡ 4)
+    × (delay (server 10 0) 5 5 ≡ 0)
+    × (delay (server 10 0) 6 5 ≡ 1)
+    × (delay (after-group (server 10 1) 10 2 0) 8 3 ≡ 3)
+    × (delay (after-group (server 10 0) 10 6 0) 12 4 ≡ 4)
+    × (delay (after-group (server 10 0) 10 6 4) 12 4 ≡ 5)
+    × (delay (after-group (server 10 0) 10 6 2) 12 4 ≡ 3)
+    × (delay (after-group (server 10 0) 10 6 1) 12 4 ≡ 3)
+    × (delay row8 6 2 ≡ 6)
+    × (leastWait (server 10 1) 10 ∷ leastWait (server 10 0) 10 ∷ leastWait (server 10 1) 4 ∷ leastWait inner 4 ∷ [] ≡ 2 ∷ 1 ∷ 2 ∷ 4 ∷ [])
 unfolding server joined remainder leastWait delay greatest catchUp lateness ceil
-figures = refl
+figures = (refl, refl, refl, refl, refl, refl, refl, refl, refl, refl)
 
 abbrev slots : List ℕ
 slots = 0 ∷ 1 ∷ 2 ∷ 3 ∷ 4 ∷ 5 ∷ []
@@ -40,19 +46,24 @@ pub slot-by-slot :
     × (map (left (serve 10 0) 10 6 1) slots ≡ 0 ∷ 0 ∷ 4 ∷ 8 ∷ 12 ∷ 16 ∷ [])
     × (map (valueAt inner) slots ≡ 0 ∷ 0 ∷ 0 ∷ 0 ∷ 10 ∷ 20 ∷ [])
     × (map (conv (serve 10 1) (left (serve 10 1) 4 2 2)) slots ≡ 0 ∷ 0 ∷ 0 ∷ 0 ∷ 10 ∷ 20 ∷ [])
-unfolding server joined remainder leastWait greatest catchUp ceil valueAt leastLine past left serve conv lowest
+unfolding server joined remainder leastWait greatest catchUp ceil valueAt leastLine zeroUpTo left serve conv lowest
 slot-by-slot = (refl, refl, refl, refl)
 
--- a curve with a stage that is never the least after the offset has its own least wait: stages are not to be dropped
+-- two curves that agree at every slot and have different least waits: no stage may be dropped
 abbrev two : Shape
 two = record { offset = 0; stages = record { burst = 0; rate = 10 } ∷ record { burst = 9; rate = 1 } ∷ [] }
 
 abbrev one : Shape
 one = record { offset = 0; stages = record { burst = 9; rate = 1 } ∷ [] }
 
-pub stage-counts : (map (valueAt two) slots ≡ map (valueAt one) slots) × (leastWait two 9 ≡ 1) × (leastWait one 9 ≡ 0)
-unfolding valueAt leastLine past leastWait greatest catchUp ceil
-stage-counts = (refl, refl, refl)
+pub same-values : (t : ℕ) → valueAt two t ≡ valueAt one t
+unfolding leastLine
+same-values zero = omega (arith, value-before two 0 (omega arith), value-before one 0 (omega arith))
+same-values (suc t) = omega (arith, value-after two (suc t) (omega arith), value-after one (suc t) (omega arith))
+
+pub other-waits : (leastWait two 9 ≡ 1) × (leastWait one 9 ≡ 0)
+unfolding leastWait greatest catchUp ceil
+other-waits = (refl, refl)
 
 -- the hypotheses of the laws can be met
 

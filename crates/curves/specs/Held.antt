@@ -2,7 +2,7 @@
 -- Assumes nothing.
 use mathlib.Core.Path.{_≡_}
 use mathlib.Core.List.{List, _++_}
-use Prim.Native.Nat.{ℕ, _+_, _*_, _≤_, _<_, _^_}
+use Prim.Native.Nat.{ℕ, _-_, _≤_, _<_, _^_}
 use lib.ListN.{length, take, drop}
 use Rattle.curves.specs.declared.Stage.{Stage}
 use Rattle.curves.specs.declared.Curve.{Curve}
@@ -20,9 +20,8 @@ spare c = drop (c .count) (c .stages)
 unfoldable pub held : Shape → List Stage → Curve
 held c l = record { offset = c .offset; count = length (c .stages); stages = c .stages ++ l }
 
--- the record r holds the curve c, and `rest` stands behind its stages; the first field says all, the others what a caller reads off it
-pub record Holds (r : Curve) (c : Shape) (rest : List Stage) : Type 0 where
-  pub exact : r ≡ held c rest
+-- the record r holds the curve c, whatever stands behind its stages
+pub record Holds (r : Curve) (c : Shape) : Type 0 where
   pub shape : shapeOf r ≡ c
   pub count : r .count ≡ length (c .stages)
   pub offset : r .offset ≡ c .offset
@@ -44,8 +43,14 @@ pub record Leaves (σ ρ x : ℕ) (s : Stage) : Type 0 where
   pub room : ρ ≤ s .rate
   pub fits : line x s < 2 ^ 63
 
--- a record whose stages are all in range, and its offset too
+-- a record whose numbers are in range
 pub record InRange (c : Curve) : Type 0 where
   pub few : c .count ≤ 16
   pub near : c .offset < 2 ^ 62
   pub live : All Live (shapeOf c .stages)
+
+-- a record from which a group (σ, ρ) can be taken with wait θ
+pub record Leaving (c : Curve) (σ ρ θ : ℕ) : Type 0 where
+  pub few : c .count ≤ 16
+  pub late : c .offset ≤ θ
+  pub leaves : All (Leaves σ ρ (θ - c .offset)) (shapeOf c .stages)

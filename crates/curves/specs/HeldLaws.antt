@@ -1,33 +1,32 @@
 -- Laws of the records that hold curves: what is held can be read back, and what the methods make is held.
 -- Assumes nothing.
-use mathlib.Core.Path.{_≡_, refl, sym, ap, _∙_}
-use mathlib.Core.List.{List, [], _∷_, _++_, map, append-assoc}
-use Prim.Native.Nat.{ℕ, _+_, _-_, _*_, _≤_, _<_, _^_}
+use mathlib.Core.Path.{_≡_, refl, sym, subst}
+use mathlib.Core.List.{List, _++_, map}
+use Prim.Native.Nat.{ℕ, _+_, _-_, _≤_, _<_, _^_}
 use native.Mathlib.Nat.{mul-le-mul}
 use native.Mathlib.Omega.{arith}
-use lib.ListN.{length, take, drop, length-map, length-append}
+use lib.ListN.{length, take, drop, length-map}
 use lib.Seq.{paste, drop-drop, length-paste-head, length-take-le, take-at, drop-at}
 use Rattle.curves.specs.declared.Stage.{Stage}
 use Rattle.curves.specs.declared.Curve.{Curve}
-use Rattle.curves.specs.Curve.{Shape, line, joined, after, remainder, leastWait, All, Rates, Below}
-use Rattle.curves.specs.Held.{shapeOf, spare, held, Holds, Live, Leaves}
+use Rattle.curves.specs.Curve.{Shape, line, joined, after, remainder, leastWait, All, Rates}
+use Rattle.curves.specs.Held.{shapeOf, spare, held, Holds, Live, Leaves, InRange, Leaving}
 use Rattle.curves.specs.StageLaws.{all-weaken, all-both}
-use Rattle.curves.specs.CurveLaws.{wait-enough}
+use Rattle.curves.specs.CurveLaws.{wait-after-offset, wait-enough}
 
--- the exact record is one that holds the curve
-pub holds : {r : Curve} (c : Shape) (rest : List Stage) → r ≡ held c rest → Holds r c rest
+-- what is held can be read back
+
+pub held-holds : {r : Curve} (c : Shape) (rest : List Stage) → r ≡ held c rest → Holds r c
 unfolding held
-holds c rest e =
-    record { exact = e; shape = rw (e, take-at (c .stages) rest (length (c .stages)) refl); count = rw e; offset = rw e }
+held-holds c rest e = record { shape = rw (e, take-at (c .stages) rest (length (c .stages)) refl); count = rw e; offset = rw e }
 
--- the entries behind the stages are the given ones
-pub holds-spare : {r : Curve} {c : Shape} {rest : List Stage} → Holds r c rest → spare r ≡ rest
+-- both parts of what a method says of its curve, from the first
+pub held-both : {r : Curve} (c : Shape) (rest : List Stage) → r ≡ held c rest → (r ≡ held c rest) × Holds r c
+held-both c rest e = (e, held-holds c rest e)
+
+pub held-spare : {r : Curve} (c : Shape) (rest : List Stage) → r ≡ held c rest → spare r ≡ rest
 unfolding held
-holds-spare {r} {c} {rest} h = rw (h .exact, drop-at (c .stages) rest (length (c .stages)) refl)
-
--- no two records hold one curve with the same entries behind it
-pub holds-unique : {a b : Curve} {c : Shape} {rest : List Stage} → Holds a c rest → Holds b c rest → a ≡ b
-holds-unique h k = h .exact ∙ sym (k .exact)
+held-spare c rest e = rw (e, drop-at (c .stages) rest (length (c .stages)) refl)
 
 -- what a join makes
 pub held-joined : (a b : Curve) → a .count ≤ length (a .stages) → b .count ≤ length (b .stages)
@@ -64,3 +63,20 @@ leaves-after-wait c σ ρ θ h k l q =
         let e : x ≤ 2 ^ 42 = omega arith in
         let m = mul-le-mul (b .0 .slow) e in
         record { covers = a; room = b .1; fits = omega (arith, b .0 .low, m) }
+
+-- what is asked of a record follows from the curve that it holds
+
+pub holds-all : {r : Curve} {c : Shape} (P : Stage → Type 0) → Holds r c → All P (c .stages) → All P (shapeOf r .stages)
+holds-all P h k = subst (λ (a : Shape). All P (a .stages)) (sym (h .shape)) k
+
+pub holds-in-range : {r : Curve} {c : Shape} → Holds r c → length (c .stages) ≤ 16 → c .offset < 2 ^ 62 → All Live (c .stages) → InRange r
+holds-in-range h n o l = record { few = omega (arith, h .count); near = omega (arith, h .offset); live = holds-all Live h l }
+
+pub holds-leaving : {r : Curve} {c : Shape} (σ ρ θ : ℕ) → Holds r c → length (c .stages) ≤ 16 → leastWait c σ ≤ θ → θ < 2 ^ 42
+    → All Live (c .stages) → Rates ρ (c .stages) → Leaving r σ ρ θ
+holds-leaving {r} {c} σ ρ θ h n w k l q =
+    record {
+      few = omega (arith, h .count);
+      late = omega (arith, h .offset, wait-after-offset c σ);
+      leaves = rw (h .offset) (holds-all (Leaves σ ρ (θ - c .offset)) h (leaves-after-wait c σ ρ θ w k l q));
+    }

@@ -3,13 +3,13 @@
 use mathlib.Core.Path.{_≡_, refl, ap}
 use mathlib.Core.List.{List, [], _∷_, _++_, append-assoc, append-nil}
 use mathlib.Core.Logic.{_⊎_, inl, inr}
-use Prim.Native.Nat.{ℕ, zero, suc, _+_, _*_, _-_, _≤_, _<_, min}
+use Prim.Native.Nat.{ℕ, _+_, _*_, _-_, _≤_, _<_, min}
 use native.Mathlib.Nat.{mul-le-mul-right, le-antisymm, add-assoc, add-zero, zero-add}
 use native.Mathlib.Omega.{arith}
-use lib.ListN.{length}
+use lib.ListN.{length, length-append}
 use Rattle.curves.specs.declared.Stage.{Stage}
 use Rattle.curves.specs.Slots.{lowest, conv}
-use Rattle.curves.specs.Curve.{Shape, line, leastLine, valueAt, neutral, joined, Rates, Below, Under}
+use Rattle.curves.specs.Curve.{Shape, line, leastLine, valueAt, neutral, joined, All, Rates, Below, Under}
 use Rattle.curves.specs.SlotsLaws.{le-or-lt, lowest-le, le-lowest}
 use Rattle.curves.specs.StageLaws.{all-append, all-front, all-back, below-mono}
 use Rattle.curves.specs.CurveLaws.{value-before, value-after, under-of-value, value-of-under}
@@ -26,9 +26,21 @@ pub joined-assoc : (c d e : Shape) → joined (joined c d) e ≡ joined c (joine
 unfolding joined
 joined-assoc c d e = rw (append-assoc, add-assoc)
 
-pub joined-rates : (ρ : ℕ) (c d : Shape) → Rates ρ (c .stages) → Rates ρ (d .stages) → Rates ρ (joined c d .stages)
+pub joined-offset : (c d : Shape) → joined c d .offset ≡ c .offset + d .offset
 unfolding joined
-joined-rates ρ c d h k = all-append (λ s. ρ ≤ s .rate) (c .stages) (d .stages) h k
+joined-offset c d = refl
+
+pub joined-length : (c d : Shape) → length (joined c d .stages) ≡ length (c .stages) + length (d .stages)
+unfolding joined
+joined-length c d = length-append (c .stages) (d .stages)
+
+-- what holds of each stage of both holds of each stage of the joined curve
+pub joined-all : (P : Stage → Type 0) (c d : Shape) → All P (c .stages) → All P (d .stages) → All P (joined c d .stages)
+unfolding joined
+joined-all P c d h k = all-append P (c .stages) (d .stages) h k
+
+pub joined-rates : (ρ : ℕ) (c d : Shape) → Rates ρ (c .stages) → Rates ρ (d .stages) → Rates ρ (joined c d .stages)
+joined-rates ρ c d h k = joined-all (λ s. ρ ≤ s .rate) c d h k
 
 -- two lines: if each is at least v at x + y, then one at x and the other at y have v together, since the slower can take all slots
 line-pair : (b r e q x y v : ℕ) → v ≤ b + r * (x + y) → v ≤ e + q * (x + y) → v ≤ b + r * x + (e + q * y)
@@ -101,7 +113,7 @@ least-append x (s ∷ []) [] h k = absurd (omega arith)
 least-append x (s ∷ []) (g ∷ m) h k = refl
 least-append x (s ∷ g ∷ l) m h k = let r = least-append x (g ∷ l) m (omega arith) k in omega arith
 
--- no way to share the slots has less than the joined curve, since what is under it splits; and giving all slots past the offsets to
+-- no way to share the slots has less than the joined curve, since what is under it splits; and giving all slots after the offsets to
 -- the curve that has the least stage has no more
 pub join-is-conv : (c d : Shape) → 0 < length (c .stages) → 0 < length (d .stages) → (t : ℕ)
     → valueAt (joined c d) t ≡ conv (valueAt c) (valueAt d) t

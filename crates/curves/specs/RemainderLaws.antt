@@ -3,21 +3,34 @@
 use mathlib.Core.Path.{_≡_, refl, ap}
 use mathlib.Core.List.{List, [], _∷_, map}
 use mathlib.Core.Logic.{_⊎_, inl, inr}
-use Prim.Native.Nat.{ℕ, zero, suc, _+_, _*_, _-_, _≤_, _<_, min}
+use Prim.Native.Nat.{ℕ, _+_, _*_, _-_, _≤_, _<_}
 use native.Mathlib.Nat.{sub-add-cancel}
 use native.Mathlib.Omega.{arith}
+use lib.ListN.{length, length-map}
 use Rattle.curves.specs.declared.Stage.{Stage}
 use Rattle.curves.specs.Slots.{left}
 use Rattle.curves.specs.Curve.{Shape, line, leastLine, valueAt, leastWait, after, remainder, All, Rates, Below, Under}
-use Rattle.curves.specs.SlotsLaws.{le-or-lt, past-before, past-after}
+use Rattle.curves.specs.SlotsLaws.{le-or-lt, zero-before, zero-after}
 use Rattle.curves.specs.StageLaws.{all-map, below-mono}
 use Rattle.curves.specs.CurveLaws.{value-before, value-after, wait-after-offset, wait-enough}
 
+pub remainder-offset : (c : Shape) (σ ρ θ : ℕ) → remainder c σ ρ θ .offset ≡ θ
+unfolding remainder
+remainder-offset c σ ρ θ = refl
+
+pub remainder-length : (c : Shape) (σ ρ θ : ℕ) → length (remainder c σ ρ θ .stages) ≡ length (c .stages)
+unfolding remainder
+remainder-length c σ ρ θ = length-map (c .stages) (after σ ρ (θ - c .offset))
+
+-- what the group leaves of each stage, if P of the stage gives Q of that
+pub remainder-all : (P Q : Stage → Type 0) (c : Shape) (σ ρ θ : ℕ) → ((s : Stage) → P s → Q (after σ ρ (θ - c .offset) s))
+    → All P (c .stages) → All Q (remainder c σ ρ θ .stages)
+unfolding remainder
+remainder-all P Q c σ ρ θ f h = all-map P Q (after σ ρ (θ - c .offset)) (c .stages) f h
+
 -- a stage that had room for ρ more keeps that room
 pub remainder-rates : (q : ℕ) (c : Shape) (σ ρ θ : ℕ) → Rates (q + ρ) (c .stages) → Rates q (remainder c σ ρ θ .stages)
-unfolding remainder
-remainder-rates q c σ ρ θ h =
-    all-map (λ s. q + ρ ≤ s .rate) (λ s. q ≤ s .rate) (after σ ρ (θ - c .offset)) (c .stages) (λ s k. omega arith) h
+remainder-rates q c σ ρ θ h = remainder-all (λ s. q + ρ ≤ s .rate) (λ s. q ≤ s .rate) c σ ρ θ (λ s k. omega arith) h
 
 -- one stage y slots after the wait: it has what it had, less what the group takes
 after-line : (σ ρ x y : ℕ) (s : Stage) → σ ≤ line x s → ρ ≤ s .rate → line y (after σ ρ x s) ≡ line (x + y) s - (σ + ρ * y)
@@ -65,7 +78,7 @@ remainder-is-left c σ ρ θ h p q t = go (le-or-lt t θ)
     r = remainder c σ ρ θ
 
     go : (t ≤ θ) ⊎ (θ < t) → valueAt r t ≡ left (valueAt c) σ ρ θ t
-    go (inl k) = omega (arith, value-before r t k, past-before θ t (valueAt c t - (σ + ρ * (t - θ))) k)
+    go (inl k) = omega (arith, value-before r t k, zero-before θ t (valueAt c t - (σ + ρ * (t - θ))) k)
     go (inr k) =
         let o = wait-after-offset c σ in
         let x : ℕ = θ - c .offset in
@@ -76,5 +89,5 @@ remainder-is-left c σ ρ θ h p q t = go (le-or-lt t θ)
           least-after σ ρ x (t - θ) (c .stages) (wait-enough c σ θ p h) q,
           ap (λ (z : ℕ). leastLine z (c .stages)) e,
           value-after c t (omega arith),
-          past-after θ t (valueAt c t - (σ + ρ * (t - θ))) k,
+          zero-after θ t (valueAt c t - (σ + ρ * (t - θ))) k,
         )

@@ -2,12 +2,12 @@
 -- Assumes nothing.
 use mathlib.Core.Path.{_≡_}
 use mathlib.Core.Logic.{_⊎_, inl, inr}
-use Prim.Native.Nat.{ℕ, zero, suc, _+_, _≤_, _<_, min}
+use Prim.Native.Nat.{ℕ, zero, suc, _≤_, _<_, min}
 use native.Mathlib.Nat.{lt-of-not-le}
 use native.Mathlib.Decide.{decLe}
 use native.Mathlib.Omega.{arith}
 use borrow.Author.Tests.{le-leb, lt-leb}
-use Rattle.curves.specs.Slots.{lowest, past}
+use Rattle.curves.specs.Slots.{lowest, zeroUpTo}
 
 -- two numbers stand in one order or the other
 pub le-or-lt : (m n : ℕ) → (m ≤ n) ⊎ (n < m)
@@ -31,10 +31,10 @@ unfolding lowest
 le-lowest zero v f k = k 0 (omega arith)
 le-lowest (suc n) v f k = omega (arith, le-lowest n v f (λ s l. k s (omega arith)), k (suc n) (omega arith))
 
-pub past-before : (D t v : ℕ) → t ≤ D → past D t v ≡ 0
-unfolding past
-past-before D t v h = rw (le-leb t D h)
+pub zero-before : (D t v : ℕ) → t ≤ D → zeroUpTo D t v ≡ 0
+unfolding zeroUpTo
+zero-before D t v h = rw (le-leb t D h)
 
-pub past-after : (D t v : ℕ) → D < t → past D t v ≡ v
-unfolding past
-past-after D t v h = rw (lt-leb t D h)
+pub zero-after : (D t v : ℕ) → D < t → zeroUpTo D t v ≡ v
+unfolding zeroUpTo
+zero-after D t v h = rw (lt-leb t D h)

@@ -1,10 +1,10 @@
 // Curves: what a stretch of servers guarantees, as an offset and stages (document 01, "Curves"). A curve is handed on whole, and a
 // new curve or a number comes back.
 ghost use mathlib.Core.Path.{_≡_};
-ghost use Prim.Native.Nat.{_+_, _-_, _≤_, _<_, _^_, max};
+ghost use Prim.Native.Nat.{_+_, _≤_, _<_, _^_, max};
 ghost use lib.ListN.{drop, replicate};
-ghost use Rattle.curves.specs.Curve.{All, neutral, server, joined, after, remainder, catchUp, leastWait, delay};
-ghost use Rattle.curves.specs.Held.{shapeOf, spare, Holds, blank, Live, Leaves, InRange};
+ghost use Rattle.curves.specs.Curve.{neutral, server, joined, after, remainder, catchUp, leastWait, delay};
+ghost use Rattle.curves.specs.Held.{shapeOf, spare, held, Holds, blank, Live, Leaves, InRange, Leaving};
 
 // A line that begins at `burst` bytes and rises by `rate` a slot.
 pub struct Stage {
@@ -47,7 +47,7 @@ impl Stage {
 impl Curve {
     // The curve of no server: joined to a curve, it gives that curve.
     pub fn none() -> Curve
-        ensures { λ r. ⌜ Holds r neutral (replicate 16 blank) ⌝ }
+        ensures { λ r. ⌜ (r ≡ held neutral (replicate 16 blank)) × Holds r neutral ⌝ }
     {
         let z = Stage { burst: 0, rate: 0 };
         let stages = [z; 16];
@@ -60,7 +60,7 @@ impl Curve {
 
     // The curve of one server.
     pub fn server(rate: u64, latency: u64) -> Curve
-        ensures { λ r. ⌜ Holds r (server rate latency) (replicate 15 blank) ⌝ }
+        ensures { λ r. ⌜ (r ≡ held (server rate latency) (replicate 15 blank)) × Holds r (server rate latency) ⌝ }
     {
         let z = Stage { burst: 0, rate: 0 };
         let mut stages = [z; 16];
@@ -78,7 +78,7 @@ impl Curve {
     // The curve of two stretches in series: the offsets add up, and the stages of both stand in order.
     pub fn join(self, other: Curve) -> Curve
         requires { ⌜ (self .count + other .count ≤ 16) × (self .offset + other .offset < 2 ^ 63) ⌝ }
-        ensures { λ r. ⌜ Holds r (joined (shapeOf self) (shapeOf other)) (drop (other .count) (spare self)) ⌝ }
+        ensures { λ r. ⌜ (r ≡ held (joined (shapeOf self) (shapeOf other)) (drop (other .count) (spare self))) × Holds r (joined (shapeOf self) (shapeOf other)) ⌝ }
     {
         let mut r = self;
         let at = self.count;
@@ -111,8 +111,8 @@ impl Curve {
 
     // What a group (sigma, rho) leaves of the curve after a wait.
     pub fn remainder(self, sigma: u64, rho: u64, wait: u64) -> Curve
-        requires { ⌜ (self .count ≤ 16) × (self .offset ≤ wait) × All (Leaves sigma rho (wait - self .offset)) (shapeOf self .stages) ⌝ }
-        ensures { λ r. ⌜ Holds r (remainder (shapeOf self) sigma rho wait) (spare self) ⌝ }
+        requires { ⌜ Leaving self sigma rho wait ⌝ }
+        ensures { λ r. ⌜ (r ≡ held (remainder (shapeOf self) sigma rho wait) (spare self)) × Holds r (remainder (shapeOf self) sigma rho wait) ⌝ }
     {
         let mut r = self;
         let n = self.count;

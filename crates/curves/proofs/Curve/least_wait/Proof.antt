@@ -17,11 +17,15 @@ Inv-loop sigma self n most₀ i₀ most i = (i ≤ n) × (most ≡ greatest (cat
 abbrev μ-loop : tie.MeasureT-loop
 μ-loop sigma self n most₀ i₀ most i = n - i
 
+-- the array has sixteen entries
+sixteen : (s : tie.Start Inv-loop μ-loop) → length (s .args .t1 .stages) ≡ 16
+sixteen s = simp length-map at (s .good .0 .1 .1 .1 .1 .0 .1 .0 .1)
+
 -- the stage of this turn is in range
 live : (c : tie.In-loop Inv-loop μ-loop) → Live (getD (c .before .before .args .t1 .stages) (c .before .loop .i) blank)
 live c =
     let s = c .before .before in
-    let l : length (s .args .t1 .stages) ≡ 16 = simp length-map at (s .good .0 .1 .1 .1 .1 .0 .1 .0 .1) in
+    let l = sixteen s in
     all-at Live (s .args .t1 .stages) (s .args .t1 .count) (c .before .loop .i) blank (s .pre .0 .live) (omega arith) (omega arith)
 
 loop-holds : tie.Need-loop-holds Inv-loop μ-loop
@@ -47,7 +51,7 @@ loop-again : tie.Need-loop-again Inv-loop μ-loop
 loop-again c =
     let s = c .before .before .before .before in
     let m = c .before .before .before .loop in
-    let l : length (s .args .t1 .stages) ≡ 16 = simp length-map at (s .good .0 .1 .1 .1 .1 .0 .1 .0 .1) in
+    let l = sixteen s in
     let v : Stage = getD (s .args .t1 .stages) (m .i) blank in (
       omega arith,
       cc (greatest-take (catchUp (s .args .sigma)) (s .args .t1 .stages) (m .i) blank (omega arith)),

@@ -3,13 +3,13 @@ use mathlib.Core.Path.{refl}
 use lib.ListN.{replicate}
 use Rattle.curves.specs.Curve.{neutral}
 use Rattle.curves.specs.Held.{held, blank}
-use Rattle.curves.specs.HeldLaws.{holds}
+use Rattle.curves.specs.HeldLaws.{held-both}
 use Rattle.curves.proofs.Curve.none.Statement.{statement}
 use Rattle.curves.proofs.Curve.none.Tie as tie
 
 returns : tie.Need-returns
 unfolding held neutral
-returns c = holds neutral (replicate 16 blank) refl
+returns c = held-both neutral (replicate 16 blank) refl
 
 pub none-spec : {M : Type 1} → statement M
 none-spec = tie.close (tie.spec returns)

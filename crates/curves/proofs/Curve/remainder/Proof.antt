@@ -1,15 +1,14 @@
 -- After i turns the group has been taken out of the first i stages, and the others are as they were.
 -- Assumes nothing.
-use mathlib.Core.Path.{_≡_, refl, sym, _∙_}
+use mathlib.Core.Path.{_≡_, refl}
 use mathlib.Core.List.{map, _++_}
-use Prim.Native.Nat.{_≤_, _<_, _-_, _+_}
+use Prim.Native.Nat.{_≤_, _<_, _-_}
 use native.Mathlib.Omega.{arith}
-use lib.ListN.{length, take, drop, getD, length-set, length-map}
-use Rattle.curves.specs.declared.Stage.{Stage}
+use lib.ListN.{length, take, drop, length-map}
 use Rattle.curves.specs.Curve.{after, remainder}
 use Rattle.curves.specs.Held.{shapeOf, spare, blank, Leaves}
 use Rattle.curves.specs.StageLaws.{all-at}
-use Rattle.curves.specs.HeldLaws.{holds, held-remainder}
+use Rattle.curves.specs.HeldLaws.{held-both, held-remainder}
 use Rattle.curves.proofs.Laws.{map-next, map-more}
 use Rattle.curves.proofs.Curve.remainder.Statement.{statement}
 use Rattle.curves.proofs.Curve.remainder.Tie as tie
@@ -40,7 +39,7 @@ after-requires c κs =
     let a = s .args in
     let p : m .i < length (a .self .stages) = omega arith in
     let e = map-next (after (a .sigma) (a .rho) (a .wait - a .self .offset)) (a .self .stages) (m .i) blank p in
-    rw (m .inv .1, e) (all-at (Leaves (a .sigma) (a .rho) (a .wait - a .self .offset)) (a .self .stages) (a .self .count) (m .i) blank (s .pre .2) (omega arith) p)
+    rw (m .inv .1, e) (all-at (Leaves (a .sigma) (a .rho) (a .wait - a .self .offset)) (a .self .stages) (a .self .count) (m .i) blank (s .pre .leaves) (omega arith) p)
 
 mul-t11 : tie.Need-mul-t11 Inv-loop μ-loop
 mul-t11 c = omega arith
@@ -72,7 +71,7 @@ returns c =
     let a = c .before .before .before .args in
     let m = c .before .loop in
     let e : m .i ≡ a .self .count = omega arith in
-    holds (remainder (shapeOf (a .self)) (a .sigma) (a .rho) (a .wait)) (spare (a .self))
+    held-both (remainder (shapeOf (a .self)) (a .sigma) (a .rho) (a .wait)) (spare (a .self))
     (rw (m .inv .1, m .inv .2, e) (held-remainder (a .self) (a .sigma) (a .rho) (a .wait) (omega arith)))
 
 pub remainder-spec : {M : Type 1} → statement M

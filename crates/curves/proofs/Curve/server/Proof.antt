@@ -4,7 +4,7 @@ use mathlib.Core.Path.{refl}
 use lib.ListN.{replicate}
 use Rattle.curves.specs.Curve.{server}
 use Rattle.curves.specs.Held.{held, blank}
-use Rattle.curves.specs.HeldLaws.{holds}
+use Rattle.curves.specs.HeldLaws.{held-both}
 use Rattle.curves.proofs.Curve.server.Statement.{statement}
 use Rattle.curves.proofs.Curve.server.Tie as tie
 
@@ -13,7 +13,7 @@ array-set-from-stages c = search needs
 
 returns : tie.Need-returns
 unfolding held server
-returns c = holds (server _ _) (replicate 15 blank) refl
+returns c = held-both (server _ _) (replicate 15 blank) refl
 
 pub server-spec : {M : Type 1} → statement M
 server-spec = tie.close (tie.spec array-set-from-stages returns)

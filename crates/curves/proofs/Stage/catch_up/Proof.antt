@@ -1,7 +1,6 @@
 -- If the stage has `sigma` bytes after `most` slots, its catch-up is at most `most`; if not, it is more, and is the quotient rounded up.
 -- Assumes nothing.
 use borrow.Author.Needs.{needs}
-use mathlib.Core.Path.{_≡_}
 use native.Mathlib.Nat.{mul-le-mul}
 use native.Mathlib.Omega.{arith}
 use Rattle.curves.specs.Curve.{ceil, catchUp}
