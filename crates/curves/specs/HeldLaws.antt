@@ -1,0 +1,82 @@
+-- Laws of the records that hold curves: what is held can be read back, and what the methods make is held.
+-- Assumes nothing.
+use mathlib.Core.Path.{_≡_, refl, sym, subst}
+use mathlib.Core.List.{List, _++_, map}
+use Prim.Native.Nat.{ℕ, _+_, _-_, _≤_, _<_, _^_}
+use native.Mathlib.Nat.{mul-le-mul}
+use native.Mathlib.Omega.{arith}
+use lib.ListN.{length, take, drop, length-map}
+use lib.Seq.{paste, drop-drop, length-paste-head, length-take-le, take-at, drop-at}
+use Rattle.curves.specs.declared.Stage.{Stage}
+use Rattle.curves.specs.declared.Curve.{Curve}
+use Rattle.curves.specs.Curve.{Shape, line, joined, after, remainder, leastWait, All, Rates}
+use Rattle.curves.specs.Held.{shapeOf, spare, held, Holds, Live, Leaves, InRange, Leaving}
+use Rattle.curves.specs.StageLaws.{all-weaken, all-both}
+use Rattle.curves.specs.CurveLaws.{wait-after-offset, wait-enough}
+
+-- what is held can be read back
+
+pub held-holds : {r : Curve} (c : Shape) (rest : List Stage) → r ≡ held c rest → Holds r c
+unfolding held
+held-holds c rest e = record { shape = rw (e, take-at (c .stages) rest (length (c .stages)) refl); count = rw e; offset = rw e }
+
+-- both parts of what a method says of its curve, from the first
+pub held-both : {r : Curve} (c : Shape) (rest : List Stage) → r ≡ held c rest → (r ≡ held c rest) × Holds r c
+held-both c rest e = (e, held-holds c rest e)
+
+pub held-spare : {r : Curve} (c : Shape) (rest : List Stage) → r ≡ held c rest → spare r ≡ rest
+unfolding held
+held-spare c rest e = rw (e, drop-at (c .stages) rest (length (c .stages)) refl)
+
+-- what a join makes
+pub held-joined : (a b : Curve) → a .count ≤ length (a .stages) → b .count ≤ length (b .stages)
+    → _≡_ {A = Curve} (record { offset = a .offset + b .offset; count = a .count + b .count; stages = paste (a .stages) (a .count) (b .stages) (b .count) })
+    (held (joined (shapeOf a) (shapeOf b)) (drop (b .count) (spare a)))
+unfolding held joined
+held-joined a b h k = rw (length-paste-head (a .stages) (a .count) (b .stages) (b .count) h k, drop-drop)
+
+-- what a remainder makes
+pub held-remainder : (a : Curve) (σ ρ θ : ℕ) → a .count ≤ length (a .stages)
+    → _≡_ {A = Curve} (record { offset = θ; count = a .count; stages = map (after σ ρ (θ - a .offset)) (take (a .count) (a .stages)) ++ drop (a .count) (a .stages) })
+    (held (remainder (shapeOf a) σ ρ θ) (spare a))
+unfolding held remainder
+held-remainder a σ ρ θ h = rw (length-map, length-take-le (a .count) (a .stages) h)
+
+-- a stage in range serves at least one byte a slot
+pub live-rates : (l : List Stage) → All Live l → Rates 1 l
+live-rates l h = all-weaken Live (λ s. 1 ≤ s .rate) l (λ s k. k .moves) h
+
+-- a group can be taken out of a curve in range after its least wait, if its rate fits and the wait is not too long
+pub leaves-after-wait : (c : Shape) (σ ρ θ : ℕ) → leastWait c σ ≤ θ → θ < 2 ^ 42 → All Live (c .stages) → Rates ρ (c .stages)
+    → All (Leaves σ ρ (θ - c .offset)) (c .stages)
+leaves-after-wait c σ ρ θ h k l q =
+    all-both (λ s. σ ≤ line x s) (λ s. Live s × (ρ ≤ s .rate)) (Leaves σ ρ x) (c .stages) each (wait-enough c σ θ (live-rates (c .stages) l) h) both
+  where
+    x : ℕ
+    x = θ - c .offset
+
+    both : All (λ s. Live s × (ρ ≤ s .rate)) (c .stages)
+    both = all-both Live (λ s. ρ ≤ s .rate) (λ s. Live s × (ρ ≤ s .rate)) (c .stages) (λ s a b. (a, b)) l q
+
+    each : (s : Stage) → σ ≤ line x s → Live s × (ρ ≤ s .rate) → Leaves σ ρ x s
+    each s a b =
+        let e : x ≤ 2 ^ 42 = omega arith in
+        let m = mul-le-mul (b .0 .slow) e in
+        record { covers = a; room = b .1; fits = omega (arith, b .0 .low, m) }
+
+-- what is asked of a record follows from the curve that it holds
+
+pub holds-all : {r : Curve} {c : Shape} (P : Stage → Type 0) → Holds r c → All P (c .stages) → All P (shapeOf r .stages)
+holds-all P h k = subst (λ (a : Shape). All P (a .stages)) (sym (h .shape)) k
+
+pub holds-in-range : {r : Curve} {c : Shape} → Holds r c → length (c .stages) ≤ 16 → c .offset < 2 ^ 62 → All Live (c .stages) → InRange r
+holds-in-range h n o l = record { few = omega (arith, h .count); near = omega (arith, h .offset); live = holds-all Live h l }
+
+pub holds-leaving : {r : Curve} {c : Shape} (σ ρ θ : ℕ) → Holds r c → length (c .stages) ≤ 16 → leastWait c σ ≤ θ → θ < 2 ^ 42
+    → All Live (c .stages) → Rates ρ (c .stages) → Leaving r σ ρ θ
+holds-leaving {r} {c} σ ρ θ h n w k l q =
+    record {
+      few = omega (arith, h .count);
+      late = omega (arith, h .offset, wait-after-offset c σ);
+      leaves = rw (h .offset) (holds-all (Leaves σ ρ (θ - c .offset)) h (leaves-after-wait c σ ρ θ w k l q));
+    }

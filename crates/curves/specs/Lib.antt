@@ -1,0 +1,12 @@
+pub mod Slots
+pub mod Curve
+pub mod Held
+pub mod SlotsLaws
+pub mod StageLaws
+pub mod CurveLaws
+pub mod JoinLaws
+pub mod RemainderLaws
+pub mod DelayLaws
+pub mod HeldLaws
+pub mod Unique
+pub mod Figures

@@ -1,0 +1,40 @@
+-- Laws of the least of finitely many numbers, and of a function that is 0 up to a slot.
+-- Assumes nothing.
+use mathlib.Core.Path.{_≡_}
+use mathlib.Core.Logic.{_⊎_, inl, inr}
+use Prim.Native.Nat.{ℕ, zero, suc, _≤_, _<_, min}
+use native.Mathlib.Nat.{lt-of-not-le}
+use native.Mathlib.Decide.{decLe}
+use native.Mathlib.Omega.{arith}
+use borrow.Author.Tests.{le-leb, lt-leb}
+use Rattle.curves.specs.Slots.{lowest, zeroUpTo}
+
+-- two numbers stand in one order or the other
+pub le-or-lt : (m n : ℕ) → (m ≤ n) ⊎ (n < m)
+le-or-lt m n = go (decLe m n)
+  where
+    go : Dec (m ≤ n) → (m ≤ n) ⊎ (n < m)
+    go (yes h) = inl h
+    go (no h) = inr (lt-of-not-le h)
+
+pub lowest-le : (n s : ℕ) (f : ℕ → ℕ) → s ≤ n → lowest n f ≤ f s
+unfolding lowest
+lowest-le zero s f k = let e : s ≡ 0 = omega arith in rw e (omega arith)
+lowest-le (suc n) s f k = go (le-or-lt s n) (lowest-le n s f)
+  where
+    go : (s ≤ n) ⊎ (n < s) → (s ≤ n → lowest n f ≤ f s) → min (lowest n f) (f (suc n)) ≤ f s
+    go (inl l) r = let x = r l in omega arith
+    go (inr l) r = let e : s ≡ suc n = omega arith in rw e (omega arith)
+
+pub le-lowest : (n v : ℕ) (f : ℕ → ℕ) → ((s : ℕ) → s ≤ n → v ≤ f s) → v ≤ lowest n f
+unfolding lowest
+le-lowest zero v f k = k 0 (omega arith)
+le-lowest (suc n) v f k = omega (arith, le-lowest n v f (λ s l. k s (omega arith)), k (suc n) (omega arith))
+
+pub zero-before : (D t v : ℕ) → t ≤ D → zeroUpTo D t v ≡ 0
+unfolding zeroUpTo
+zero-before D t v h = rw (le-leb t D h)
+
+pub zero-after : (D t v : ℕ) → D < t → zeroUpTo D t v ≡ v
+unfolding zeroUpTo
+zero-after D t v h = rw (lt-leb t D h)

@@ -1,0 +1,134 @@
+-- Laws of stages: what holds of each stage of a list, quotients rounded up, and how many slots a stage needs to have a number of bytes.
+-- Assumes nothing.
+use mathlib.Core.Path.{_≡_, refl}
+use mathlib.Core.List.{List, [], _∷_, _++_, map}
+use mathlib.Core.Logic.{_⊎_, inl, inr}
+use Prim.Native.Nat.{ℕ, zero, suc, _+_, _-_, _*_, _≤_, _<_, max}
+use native.Mathlib.Nat.{mul-le-mul-left, mul-le-mul-right, mul-sub, le-antisymm, div-lt-iff-lt-mul, lt-div-mul-add}
+use native.Mathlib.Numerals.{add-one}
+use native.Mathlib.Omega.{arith}
+use lib.ListN.{length, take, getD}
+use lib.Seq.{take-suc}
+use Rattle.curves.specs.declared.Stage.{Stage}
+use Rattle.curves.specs.Curve.{line, ceil, greatest, catchUp, lateness, All, Rates, Below}
+use Rattle.curves.specs.SlotsLaws.{le-or-lt}
+
+-- what holds of each stage
+
+pub all-weaken : (P Q : Stage → Type 0) (l : List Stage) → ((s : Stage) → P s → Q s) → All P l → All Q l
+all-weaken P Q [] f h = tt
+all-weaken P Q (s ∷ l) f h = (f s (h .0), all-weaken P Q l f (h .1))
+
+pub all-both : (P Q R : Stage → Type 0) (l : List Stage) → ((s : Stage) → P s → Q s → R s) → All P l → All Q l → All R l
+all-both P Q R [] f h k = tt
+all-both P Q R (s ∷ l) f h k = (f s (h .0) (k .0), all-both P Q R l f (h .1) (k .1))
+
+pub all-append : (P : Stage → Type 0) (l m : List Stage) → All P l → All P m → All P (l ++ m)
+all-append P [] m h k = k
+all-append P (s ∷ l) m h k = (h .0, all-append P l m (h .1) k)
+
+pub all-front : (P : Stage → Type 0) (l m : List Stage) → All P (l ++ m) → All P l
+all-front P [] m h = tt
+all-front P (s ∷ l) m h = (h .0, all-front P l m (h .1))
+
+pub all-back : (P : Stage → Type 0) (l m : List Stage) → All P (l ++ m) → All P m
+all-back P [] m h = h
+all-back P (s ∷ l) m h = all-back P l m (h .1)
+
+pub all-map : (P Q : Stage → Type 0) (f : Stage → Stage) (l : List Stage) → ((s : Stage) → P s → Q (f s)) → All P l → All Q (map f l)
+all-map P Q f [] g h = tt
+all-map P Q f (s ∷ l) g h = (g s (h .0), all-map P Q f l g (h .1))
+
+-- the stage at a place of the first n
+pub all-at : (P : Stage → Type 0) (l : List Stage) (n i : ℕ) (d : Stage) → All P (take n l) → i < n → i < length l → P (getD l i d)
+all-at P [] n i d h p q = absurd (omega arith)
+all-at P (s ∷ l) zero i d h p q = absurd (omega arith)
+all-at P (s ∷ l) (suc n) zero d h p q = h .0
+all-at P (s ∷ l) (suc n) (suc i) d h p q = all-at P l n i d (h .1) (omega arith) (omega arith)
+
+pub rates-weaken : (ρ q : ℕ) (l : List Stage) → ρ ≤ q → Rates q l → Rates ρ l
+rates-weaken ρ q l k h = all-weaken (λ s. q ≤ s .rate) (λ s. ρ ≤ s .rate) l (λ s p. omega arith) h
+
+pub below-mono : (v w x y : ℕ) (l : List Stage) → w ≤ v → x ≤ y → Below v x l → Below w y l
+below-mono v w x y l p q h = all-weaken (λ s. v ≤ line x s) (λ s. w ≤ line y s) l (λ s k. omega (arith, mul-le-mul-left (s .rate) q)) h
+
+-- the greatest over the stages
+
+pub greatest-le : (f : Stage → ℕ) (w : ℕ) (l : List Stage) → All (λ s. f s ≤ w) l → greatest f l ≤ w
+unfolding greatest
+greatest-le f w [] h = omega arith
+greatest-le f w (s ∷ l) h = omega (arith, h .0, greatest-le f w l (h .1))
+
+pub le-greatest : (f : Stage → ℕ) (w : ℕ) (l : List Stage) → greatest f l ≤ w → All (λ s. f s ≤ w) l
+unfolding greatest
+le-greatest f w [] h = tt
+le-greatest f w (s ∷ l) h = (omega arith, le-greatest f w l (omega arith))
+
+pub greatest-snoc : (f : Stage → ℕ) (l : List Stage) (s : Stage) → greatest f (l ++ (s ∷ [])) ≡ max (greatest f l) (f s)
+unfolding greatest
+greatest-snoc f [] s = omega arith
+greatest-snoc f (x ∷ l) s = omega (arith, greatest-snoc f l s)
+
+-- one stage more
+pub greatest-take : (f : Stage → ℕ) (l : List Stage) (i : ℕ) (d : Stage) → i < length l
+    → greatest f (take (i + 1) l) ≡ max (greatest f (take i l)) (f (getD l i d))
+greatest-take f l i d p = rw (add-one, take-suc l i d, greatest-snoc)
+
+-- if one function is one less than another at each stage, so are the greatest values
+pub greatest-pred : (f g : Stage → ℕ) (l : List Stage) → All (λ s. f s ≡ g s - 1) l → greatest f l ≡ greatest g l - 1
+unfolding greatest
+greatest-pred f g [] h = refl
+greatest-pred f g (s ∷ l) h = omega (arith, h .0, greatest-pred f g l (h .1))
+
+-- the quotient rounded up is the least number that is enough
+
+pub ceil-enough : (a r : ℕ) → 1 ≤ r → a ≤ r * ceil a r
+unfolding ceil
+ceil-enough a r h = let k = lt-div-mul-add {a = a + (r - 1)} {b = r} h in omega arith
+
+pub ceil-least : (a r w : ℕ) → 1 ≤ r → a ≤ r * w → ceil a r ≤ w
+unfolding ceil
+ceil-least a r w h k =
+    let x : a + (r - 1) < suc w * r = omega arith in
+    let y = div-lt-iff-lt-mul {k = r} {x = a + (r - 1)} {y = suc w} h .1 x in
+    omega arith
+
+-- r less to divide is one slot less
+pub ceil-pred : (a r : ℕ) → 1 ≤ r → ceil (a - r) r ≡ ceil a r - 1
+ceil-pred a r h = le-antisymm low high
+  where
+    low : ceil (a - r) r ≤ ceil a r - 1
+    low = ceil-least (a - r) r (ceil a r - 1) h (omega (arith, ceil-enough a r h, mul-sub r (ceil a r) 1))
+
+    high : ceil a r - 1 ≤ ceil (a - r) r
+    high =
+        let k = ceil-least a r (suc (ceil (a - r) r)) h (omega (arith, ceil-enough (a - r) r h)) in
+        omega arith
+
+-- a stage has σ bytes after w slots if and only if its catch-up is at most w
+
+pub catch-up-enough : (σ w : ℕ) (s : Stage) → 1 ≤ s .rate → catchUp σ s ≤ w → σ ≤ line w s
+unfolding catchUp
+catch-up-enough σ w s h k =
+    let e = ceil-enough (σ - s .burst) (s .rate) h in
+    omega (arith, mul-le-mul-left (s .rate) k)
+
+pub catch-up-least : (σ w : ℕ) (s : Stage) → 1 ≤ s .rate → σ ≤ line w s → catchUp σ s ≤ w
+unfolding catchUp
+catch-up-least σ w s h k = ceil-least (σ - s .burst) (s .rate) w h (omega arith)
+
+pub catch-up-more : (σ w : ℕ) (s : Stage) → 1 ≤ s .rate → line w s < σ → w < catchUp σ s
+catch-up-more σ w s h k = go (le-or-lt (catchUp σ s) w)
+  where
+    go : (catchUp σ s ≤ w) ⊎ (w < catchUp σ s) → w < catchUp σ s
+    go (inl l) = absurd (omega (arith, catch-up-enough σ w s h l))
+    go (inr l) = l
+
+-- a rate of at least one byte a slot needs no more slots than bytes
+pub catch-up-le : (σ : ℕ) (s : Stage) → 1 ≤ s .rate → catchUp σ s ≤ σ
+catch-up-le σ s h = catch-up-least σ σ s h (omega (arith, mul-le-mul-right σ h))
+
+-- a bucket's lateness is one slot less than the catch-up for what it may send in its first slot
+pub lateness-is : (σ ρ : ℕ) (s : Stage) → 1 ≤ s .rate → lateness σ ρ s ≡ catchUp (σ + ρ) s - 1
+unfolding lateness catchUp
+lateness-is σ ρ s h = ceil-pred (σ + ρ - s .burst) (s .rate) h

@@ -1,0 +1,138 @@
+// Curves: what a stretch of servers guarantees, as an offset and stages (document 01, "Curves"). A curve is handed on whole, and a
+// new curve or a number comes back.
+ghost use mathlib.Core.Path.{_≡_};
+ghost use Prim.Native.Nat.{_+_, _≤_, _<_, _^_, max};
+ghost use lib.ListN.{drop, replicate};
+ghost use Rattle.curves.specs.Curve.{neutral, server, joined, after, remainder, catchUp, leastWait, delay};
+ghost use Rattle.curves.specs.Held.{shapeOf, spare, held, Holds, blank, Live, Leaves, InRange, Leaving};
+
+// A line that begins at `burst` bytes and rises by `rate` a slot.
+pub struct Stage {
+    pub burst: u64,
+    pub rate: u64,
+}
+
+// Nothing up to `offset`, then the least of the first `count` stages.
+pub struct Curve {
+    pub offset: u64,
+    pub count: usize,
+    pub stages: [Stage; 16],
+}
+
+impl Stage {
+    // The slots until the stage has `sigma` bytes, or `most` if that is more.
+    fn catch_up(self, sigma: u64, most: u64) -> u64
+        requires { ⌜ Live self × (sigma < 2 ^ 40) × (most ≤ sigma) ⌝ }
+        ensures { λ r. ⌜ r ≡ max most (catchUp sigma self) ⌝ }
+    {
+        if self.burst + self.rate * most < sigma {
+            (sigma - self.burst + (self.rate - 1)) / self.rate
+        } else {
+            most
+        }
+    }
+
+    // What a group leaves of the stage, `gap` slots after the curve's offset.
+    fn after(self, sigma: u64, rho: u64, gap: u64) -> Stage
+        requires { ⌜ Leaves sigma rho gap self ⌝ }
+        ensures { λ r. ⌜ r ≡ after sigma rho gap self ⌝ }
+    {
+        Stage {
+            burst: self.burst + self.rate * gap - sigma,
+            rate: self.rate - rho,
+        }
+    }
+}
+
+impl Curve {
+    // The curve of no server: joined to a curve, it gives that curve.
+    pub fn none() -> Curve
+        ensures { λ r. ⌜ (r ≡ held neutral (replicate 16 blank)) × Holds r neutral ⌝ }
+    {
+        let z = Stage { burst: 0, rate: 0 };
+        let stages = [z; 16];
+        Curve {
+            offset: 0,
+            count: 0,
+            stages: stages,
+        }
+    }
+
+    // The curve of one server.
+    pub fn server(rate: u64, latency: u64) -> Curve
+        ensures { λ r. ⌜ (r ≡ held (server rate latency) (replicate 15 blank)) × Holds r (server rate latency) ⌝ }
+    {
+        let z = Stage { burst: 0, rate: 0 };
+        let mut stages = [z; 16];
+        stages[0] = Stage {
+            burst: 0,
+            rate: rate,
+        };
+        Curve {
+            offset: latency,
+            count: 1,
+            stages: stages,
+        }
+    }
+
+    // The curve of two stretches in series: the offsets add up, and the stages of both stand in order.
+    pub fn join(self, other: Curve) -> Curve
+        requires { ⌜ (self .count + other .count ≤ 16) × (self .offset + other .offset < 2 ^ 63) ⌝ }
+        ensures { λ r. ⌜ (r ≡ held (joined (shapeOf self) (shapeOf other)) (drop (other .count) (spare self))) × Holds r (joined (shapeOf self) (shapeOf other)) ⌝ }
+    {
+        let mut r = self;
+        let at = self.count;
+        let n = other.count;
+        let mut i: usize = 0;
+        while i < n {
+            r.stages[at + i] = other.stages[i];
+            i = i + 1;
+        }
+        r.count = at + n;
+        r.offset = self.offset + other.offset;
+        r
+    }
+
+    // The least wait for a group with burst `sigma`.
+    pub fn least_wait(self, sigma: u64) -> u64
+        requires { ⌜ InRange self × (sigma < 2 ^ 40) ⌝ }
+        ensures { λ r. ⌜ r ≡ leastWait (shapeOf self) sigma ⌝ }
+    {
+        let n = self.count;
+        let mut most: u64 = 0;
+        let mut i: usize = 0;
+        while i < n {
+            let s = self.stages[i];
+            most = s.catch_up(sigma, most);
+            i = i + 1;
+        }
+        self.offset + most
+    }
+
+    // What a group (sigma, rho) leaves of the curve after a wait.
+    pub fn remainder(self, sigma: u64, rho: u64, wait: u64) -> Curve
+        requires { ⌜ Leaving self sigma rho wait ⌝ }
+        ensures { λ r. ⌜ (r ≡ held (remainder (shapeOf self) sigma rho wait) (spare self)) × Holds r (remainder (shapeOf self) sigma rho wait) ⌝ }
+    {
+        let mut r = self;
+        let n = self.count;
+        let gap = wait - self.offset;
+        let mut i: usize = 0;
+        while i < n {
+            let s = r.stages[i];
+            r.stages[i] = s.after(sigma, rho, gap);
+            i = i + 1;
+        }
+        r.offset = wait;
+        r
+    }
+
+    // The delay of a bucket (sigma, rho): one slot less than the least wait for what it may send in its first slot.
+    pub fn delay(self, sigma: u64, rho: u64) -> u64
+        requires { ⌜ InRange self × (sigma + rho < 2 ^ 40) ⌝ }
+        ensures { λ r. ⌜ r ≡ delay (shapeOf self) sigma rho ⌝ }
+    {
+        let wait = self.least_wait(sigma + rho);
+        if self.offset < wait { wait - 1 } else { wait }
+    }
+}
