@@ -1,0 +1,61 @@
+-- `cases::expect_unread` is safe and ends: each place is tested against the length before it is read. The measure is how many places are left;
+-- nothing has to hold from turn to turn.
+-- Assumes nothing.
+use borrow.Author.Needs.{needs}
+use Prim.Native.Nat.{_-_}
+use lib.ListN.{length}
+use Rattle.cases.proofs.expect_unread.Statement.{statement}
+use Rattle.cases.proofs.expect_unread.Tie as tie
+
+abbrev Inv-loop : tie.InvT-loop
+Inv-loop list from i₀ t4 i = Unit
+
+abbrev μ-loop : tie.MeasureT-loop
+μ-loop list from i₀ t4 i = length list - i
+
+loop-holds : tie.Need-loop-holds Inv-loop μ-loop
+loop-holds c = search needs
+
+mul-if1 : tie.Need-mul-if1 Inv-loop μ-loop
+mul-if1 c = search needs
+
+shared-slice-read-if1 : tie.Need-shared-slice-read-if1 Inv-loop μ-loop
+shared-slice-read-if1 c = search needs
+
+slice-aggregate-write-all : tie.Need-slice-aggregate-write-all Inv-loop μ-loop
+slice-aggregate-write-all c = search needs
+
+write-all-requires : tie.Need-write-all-requires Inv-loop μ-loop
+write-all-requires c κs = search needs
+
+returns : tie.Need-returns Inv-loop μ-loop
+returns c = search needs
+
+add-i : tie.Need-add-i Inv-loop μ-loop
+add-i c = search needs
+
+loop-less : tie.Need-loop-less Inv-loop μ-loop
+loop-less c = search needs
+
+loop-again : tie.Need-loop-again Inv-loop μ-loop
+loop-again c = search needs
+
+returns-2 : tie.Need-returns-2 Inv-loop μ-loop
+returns-2 c = search needs
+
+pub expect-unread-spec : {M : Type 1} → statement M
+expect-unread-spec =
+    tie.close
+    (tie.spec
+    Inv-loop
+    μ-loop
+    loop-holds
+    mul-if1
+    shared-slice-read-if1
+    slice-aggregate-write-all
+    write-all-requires
+    returns
+    add-i
+    loop-less
+    loop-again
+    returns-2)
