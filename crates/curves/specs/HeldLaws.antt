@@ -9,7 +9,7 @@ use lib.ListN.{length, take, drop, length-map}
 use lib.Seq.{paste, drop-drop, length-paste-head, length-take-le, take-at, drop-at}
 use Rattle.curves.specs.declared.Stage.{Stage}
 use Rattle.curves.specs.declared.Curve.{Curve}
-use Rattle.curves.specs.Curve.{Shape, line, joined, after, remainder, leastWait, All, Rates}
+use Rattle.curves.specs.Curve.{Shape, line, joined, after, remainder, leastWait, delay, All, Rates}
 use Rattle.curves.specs.Held.{shapeOf, spare, held, Holds, Live, Leaves, InRange, Leaving}
 use Rattle.curves.specs.StageLaws.{all-weaken, all-both}
 use Rattle.curves.specs.CurveLaws.{wait-after-offset, wait-enough}
@@ -80,3 +80,17 @@ holds-leaving {r} {c} σ ρ θ h n w k l q =
       late = omega (arith, h .offset, wait-after-offset c σ);
       leaves = rw (h .offset) (holds-all (Leaves σ ρ (θ - c .offset)) h (leaves-after-wait c σ ρ θ w k l q));
     }
+
+-- a result's curve, said of the curves that the arguments hold
+
+pub holds-joined : {r a b : Curve} {c d : Shape} → Holds a c → Holds b d → Holds r (joined (shapeOf a) (shapeOf b)) → Holds r (joined c d)
+holds-joined h k j = rw (← h .shape, ← k .shape) j
+
+pub holds-remainder : {r a : Curve} {c : Shape} (σ ρ θ : ℕ) → Holds a c → Holds r (remainder (shapeOf a) σ ρ θ) → Holds r (remainder c σ ρ θ)
+holds-remainder σ ρ θ h j = rw (← h .shape) j
+
+pub holds-wait : {a : Curve} {c : Shape} (σ w : ℕ) → Holds a c → w ≡ leastWait (shapeOf a) σ → w ≡ leastWait c σ
+holds-wait σ w h e = rw (← h .shape) e
+
+pub holds-delay : {a : Curve} {c : Shape} (σ ρ d : ℕ) → Holds a c → d ≡ delay (shapeOf a) σ ρ → d ≡ delay c σ ρ
+holds-delay σ ρ d h e = rw (← h .shape) e
