@@ -1,2 +1,9 @@
 pub mod Plan
 pub mod Grid
+pub mod Stretch
+pub mod Tree
+pub mod Bound
+pub mod Planned
+pub mod TestLaws
+pub mod SumLaws
+pub mod PlanLaws
