@@ -4,6 +4,11 @@ pub mod Stretch
 pub mod Tree
 pub mod Bound
 pub mod Planned
+pub mod Fits
+pub mod Amounts
 pub mod TestLaws
 pub mod SumLaws
 pub mod PlanLaws
+pub mod FlowLaws
+pub mod NestedLaws
+pub mod StretchLaws

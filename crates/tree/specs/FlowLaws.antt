@@ -1,0 +1,45 @@
+-- What the tests of a row's flows say: a flow is on a path, a flow crosses a server.
+-- Assumes nothing.
+use Prim.Native.Nat.{ℕ, _≤_, _<_}
+use mathlib.Core.Path.{_≡_}
+use mathlib.Core.Bool.{Bool, true, false, _&&_}
+use lib.Dec.{leb, ltb, eqb}
+use lib.ListN.{length}
+use borrow.Author.Tests.{ltb-true, leb-true, eqb-true, lt-ltb, le-leb, eq-eqb}
+use Rattle.row.specs.Tandem.{Tandem, Path, flow, crosses, on}
+use Rattle.tree.specs.TestLaws.{both-true}
+
+pub on-is : (row : Tandem) (g : Path) (f : ℕ) → on row g f ≡ true
+    → (0 < f) × (f < length (row .flows)) × (flow row f .first ≡ g .first) × (flow row f .last ≡ g .last)
+unfolding on
+on-is row g f h =
+    let x : Bool = eqb (flow row f .first) (g .first) in
+    let y : Bool = eqb (flow row f .last) (g .last) in
+    let z : Bool = ltb f (length (row .flows)) in
+    let a = both-true (ltb 0 f) (z && (x && y)) h in
+    let b = both-true z (x && y) (a .1) in
+    let c = both-true x y (b .1) in (
+      ltb-true 0 f (a .0),
+      ltb-true f (length (row .flows)) (b .0),
+      eqb-true (flow row f .first) (g .first) (c .0),
+      eqb-true (flow row f .last) (g .last) (c .1),
+    )
+
+pub is-on : (row : Tandem) (g : Path) (f : ℕ) → 0 < f → f < length (row .flows) → flow row f .first ≡ g .first → flow row f .last ≡ g .last
+    → on row g f ≡ true
+unfolding on
+is-on row g f a b c d =
+    rw (lt-ltb 0 f a, lt-ltb f (length (row .flows)) b, eq-eqb (flow row f .first) (g .first) c, eq-eqb (flow row f .last) (g .last) d)
+
+pub crosses-is : (row : Tandem) (f j : ℕ) → crosses row f j ≡ true → (f < length (row .flows)) × (flow row f .first ≤ j) × (j ≤ flow row f .last)
+unfolding crosses
+crosses-is row f j h =
+    let x : Bool = leb (flow row f .first) j in
+    let y : Bool = leb j (flow row f .last) in
+    let a = both-true (ltb f (length (row .flows))) (x && y) h in
+    let b = both-true x y (a .1) in
+    (ltb-true f (length (row .flows)) (a .0), leb-true (flow row f .first) j (b .0), leb-true j (flow row f .last) (b .1))
+
+pub is-crosses : (row : Tandem) (f j : ℕ) → f < length (row .flows) → flow row f .first ≤ j → j ≤ flow row f .last → crosses row f j ≡ true
+unfolding crosses
+is-crosses row f j a b c = rw (lt-ltb f (length (row .flows)) a, le-leb (flow row f .first) j b, le-leb j (flow row f .last) c)
