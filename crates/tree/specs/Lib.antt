@@ -6,9 +6,11 @@ pub mod Bound
 pub mod Planned
 pub mod Fits
 pub mod Amounts
+pub mod Fine
 pub mod TestLaws
 pub mod SumLaws
 pub mod PlanLaws
 pub mod FlowLaws
 pub mod NestedLaws
 pub mod StretchLaws
+pub mod SizeLaws
