@@ -1,6 +1,7 @@
 -- What a stretch holds, added up: its servers' latencies, weights of its groups' flows, its groups' extras, and how many groups it has.
 -- Assumes nothing.
 use Prim.Native.Nat.{ℕ, suc, _+_}
+use mathlib.Core.List.{List, [], _∷_}
 use lib.ListN.{length}
 use Rattle.row.specs.Sums.{weigh, total}
 use Rattle.row.specs.Tandem.{Tandem, server, on}
@@ -26,3 +27,8 @@ unfoldable pub count : Stretch → ℕ
 count none = 0
 count (then-server p j) = count p
 count (then-group p k g q) = count p + (1 + count q)
+
+-- numbers of a list, added up
+unfoldable pub sumOf : List ℕ → ℕ
+sumOf [] = 0
+sumOf (e ∷ es) = e + sumOf es

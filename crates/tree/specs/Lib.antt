@@ -7,6 +7,7 @@ pub mod Planned
 pub mod Fits
 pub mod Amounts
 pub mod Fine
+pub mod Stands
 pub mod TestLaws
 pub mod SumLaws
 pub mod PlanLaws
@@ -14,3 +15,4 @@ pub mod FlowLaws
 pub mod NestedLaws
 pub mod StretchLaws
 pub mod SizeLaws
+pub mod PruneLaws

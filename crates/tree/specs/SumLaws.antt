@@ -1,9 +1,10 @@
 -- Laws of sums over the first n numbers, and of tests over them.
 -- Assumes nothing.
-use mathlib.Core.Path.{_≡_, refl, sym, _∙_}
+use mathlib.Core.Path.{_≡_, refl, sym, ap, _∙_}
 use mathlib.Core.Bool.{Bool, true, false, _||_, true≢false, false≢true}
 use mathlib.Core.Logic.{_⊎_, inl, inr}
 use Prim.Native.Nat.{ℕ, zero, suc, _+_, _*_, _≤_, _<_}
+use native.Mathlib.Nat.{add-zero, add-suc}
 use native.Mathlib.Omega.{arith}
 use Rattle.curves.specs.SlotsLaws.{le-or-lt}
 use Rattle.row.specs.Sums.{weigh, total, any}
@@ -68,6 +69,27 @@ total-subset n P G r h = total-mono n (λ f. weigh (P f) (r f)) (λ f. weigh (G 
     go : (f : ℕ) (a : Bool) → P f ≡ a → weigh (P f) (r f) ≤ weigh (G f) (r f)
     go f true e = rw (e, h f e) (omega arith)
     go f false e = rw e (omega arith)
+
+pub total-zero : (n : ℕ) (g : ℕ → ℕ) → ((f : ℕ) → f < n → g f ≡ 0) → total n g ≡ 0
+unfolding total
+total-zero zero g k = refl
+total-zero (suc n) g k = omega (arith, total-zero n g (λ f l. k f (omega arith)), k n (omega arith))
+
+-- the first apart
+pub total-front : (n : ℕ) (g : ℕ → ℕ) → total (suc n) g ≡ g 0 + total n (λ k. g (suc k))
+unfolding total
+total-front zero g = omega arith
+total-front (suc n) g = omega (arith, total-front n g)
+
+-- the first a, and b more
+pub total-split : (a b : ℕ) (g : ℕ → ℕ) → total (a + b) g ≡ total a g + total b (λ m. g (a + m))
+unfolding total
+total-split a zero g =
+    let e : total (a + zero) g ≡ total a g = ap (λ (x : ℕ). total x g) (add-zero a) in
+    omega (arith, e)
+total-split a (suc b) g =
+    let e : total (a + suc b) g ≡ total (suc (a + b)) g = ap (λ (x : ℕ). total x g) (add-suc a b) in
+    omega (arith, e, total-split a b g)
 
 pub any-at : (n f : ℕ) (p : ℕ → Bool) → f < n → p f ≡ true → any n p ≡ true
 unfolding any
