@@ -16,3 +16,4 @@ pub mod NestedLaws
 pub mod StretchLaws
 pub mod SizeLaws
 pub mod PruneLaws
+pub mod ParentLaws

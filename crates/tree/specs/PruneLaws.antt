@@ -8,7 +8,7 @@ use mathlib.Core.List.{List, [], _∷_, _++_, map}
 use Prim.Native.Nat.{ℕ, zero, suc, _+_, _-_, _≤_, _<_}
 use native.Mathlib.Omega.{arith}
 use lib.Dec.{ltb, eqb}
-use lib.ListN.{length, getD}
+use lib.ListN.{length, getD, drop}
 use borrow.Author.Tests.{eqb-true, eq-eqb, ne-eqb}
 use Rattle.curves.specs.Curve.{Shape, joined, leastWait, remainder, delay}
 use Rattle.curves.specs.SlotsLaws.{le-or-lt}
@@ -67,7 +67,7 @@ in-numbered k g q (then-group p k′ g′ q′) (inl (inr h)) =
 in-numbered k g q (then-group p k′ g′ q′) (inr h) = or-right (numbered p k || numbered q′ k) (eqb k′ k) (eq-eqb k′ k (sym (h .0)))
 
 -- a sum over one number only
-total-one : (n y : ℕ) (r : ℕ → ℕ) → (total n (λ k. weigh (eqb y k) (r k)) ≤ r y) × (n ≤ y → total n (λ k. weigh (eqb y k) (r k)) ≡ 0)
+pub total-one : (n y : ℕ) (r : ℕ → ℕ) → (total n (λ k. weigh (eqb y k) (r k)) ≤ r y) × (n ≤ y → total n (λ k. weigh (eqb y k) (r k)) ≡ 0)
 unfolding total
 total-one zero y r = (omega arith, λ h. refl)
 total-one (suc n) y r = go (le-or-lt n y) (le-or-lt y n) (total-one n y r)
@@ -174,15 +174,16 @@ module _ (row : Tandem) (extra : ℕ → ℕ) where
       step false single y r = r (then-server p j) (suc j) e a
       step false (whole k g q) y r = r (then-group p k g q) (suc (g .last)) e (more k g q (h j k g q y))
 
-  -- group k′, with path g and stretch q, is one of gs, numbered from k on, and its wait is that of q
+  -- group k′, with path g and stretch q, is one of gs, numbered from k on; its wait is that of q, and q is made of the groups behind it
   abbrev Known : ℕ → List Path → ℕ → Path → Stretch → Type 0
   Known k gs k′ g q =
       (m : ℕ) × (k′ ≡ k + m) × (m < length gs) × (getD gs m (path 0 0) ≡ g)
       × (getD (waits row extra k gs) m 0 ≡ groupWait row g (curve row extra q) (extra k′))
+      × (q ≡ inside row (top row (suc k′) (drop (suc m) gs)) g)
 
   shift : (g₀ : Path) (gs : List Path) (k k′ : ℕ) (g : Path) (q : Stretch) → Known (suc k) gs k′ g q → Known k (g₀ ∷ gs) k′ g q
   unfolding waits
-  shift g₀ gs k k′ g q h = (suc (h .0), omega (arith, h .1), omega (arith, h .2), h .3, h .4)
+  shift g₀ gs k k′ g q h = (suc (h .0), omega (arith, h .1), omega (arith, h .2), h .3, h .4, h .5)
 
   top-all : (gs : List Path) (k j k′ : ℕ) (g : Path) (q : Stretch) → top row k gs j ≡ whole k′ g q → Known k gs k′ g q × AllIn (Known k gs) q
   unfolding top waits In
@@ -203,13 +204,24 @@ module _ (row : Tandem) (extra : ℕ → ℕ) where
 
           go : k ≡ k′ → g₀ ≡ g → w ≡ q → Known k (g₀ ∷ gs) k′ g q × AllIn (Known k (g₀ ∷ gs)) q
           go x y z = (
-            (0, omega arith, omega arith, y, rw (← x, ← y, ← z)),
+            (0, omega arith, omega arith, y, rw (← x, ← y, ← z), sym z ∙ rw (x, y)),
             subst (AllIn (Known k (g₀ ∷ gs))) z (λ a b c i. shift g₀ gs k a b c (within a b c i)),
           )
 
   tree-all : AllIn (Known 0 (groups row)) (tree row)
   unfolding tree In
   tree-all = walk-all (Known 0 (groups row)) (size row) (top row 0 (groups row)) (top-all (groups row) 0) none (flow row 0 .first) (flow row 0 .last) (λ a b c i. absurd i)
+
+-- what stands in the tree is a group of the row, under its number, and its stretch is made of the groups behind it
+pub in-tree : (row : Tandem) (k : ℕ) (g : Path) (q : Stretch) → In k g q (tree row)
+    → (k < length (groups row)) × (getD (groups row) k (path 0 0) ≡ g) × (q ≡ inside row (top row (suc k) (drop (suc k) (groups row))) g)
+in-tree row k g q i =
+    let K = tree-all row (λ k. 0) k g q i in
+    let e : K .0 ≡ k = omega (arith, K .1) in (
+      omega (arith, K .2),
+      ap (λ (x : ℕ). getD (groups row) x (path 0 0)) (sym e) ∙ K .3,
+      K .5 ∙ ap (λ (x : ℕ). inside row (top row (suc k) (drop (suc x) (groups row))) g) e,
+    )
 
 module _ (row : Tandem) (ok : Accepted row) where
   later-at : (gs : List Path) (m f : ℕ) → m < length gs → on row (getD gs m (path 0 0)) f ≡ true → later row gs f ≡ true
@@ -218,7 +230,7 @@ module _ (row : Tandem) (ok : Accepted row) where
   later-at (g ∷ gs) zero f h e = or-left (on row g f) (later row gs f) e
   later-at (g ∷ gs) (suc m) f h e = or-right (on row g f) (later row gs f) (later-at gs m f (omega arith) e)
 
-  order-at : (gs : List Path) → Order row ok gs → (m : ℕ) → m < length gs
+  pub order-at : (gs : List Path) → Order row ok gs → (m : ℕ) → m < length gs
       → (w : ℕ) × (on row (getD gs m (path 0 0)) w ≡ true) × (getD gs m (path 0 0) .first ≤ getD gs m (path 0 0) .last)
   unfolding Order
   order-at [] o m h = absurd (omega arith)
@@ -247,7 +259,7 @@ module _ (row : Tandem) (ok : Accepted row) where
   same-index (g ∷ gs) o (suc a) (suc b) h k e = ap suc (same-index gs (o .2) a b (omega arith) (omega arith) e)
 
   -- each group stands in the tree, with its wait
-  stands : (extra : ℕ → ℕ) (m : ℕ) → m < length (groups row)
+  pub stands : (extra : ℕ → ℕ) (m : ℕ) → m < length (groups row)
       → (g : Path) × (q : Stretch) × In m g q (tree row) × (getD (waits row extra 0 (groups row)) m 0 ≡ groupWait row g (curve row extra q) (extra m))
   unfolding watched
   stands extra m h = finish (found row watched 1 (tree row) (fit .0) w (g .first - 1) (omega (arith, fit .1, v .0, v .1, v .2, o .2)) crossing unwatched)

@@ -129,7 +129,7 @@ module _ (row : Tandem) where
       omega (arith, weights-le w watched 1 p h, o, s, y)
 
   -- the flows of a stretch's groups are among all flows
-  weights-some : (w : ℕ → ℕ) (P : ℕ → Bool) (i : ℕ) (p : Stretch) → Fits row P i p → weights row w p ≤ total (length (row .flows)) w
+  pub weights-some : (w : ℕ → ℕ) (P : ℕ → Bool) (i : ℕ) (p : Stretch) → Fits row P i p → weights row w p ≤ total (length (row .flows)) w
   weights-some w P i p h =
       omega (
         arith,
