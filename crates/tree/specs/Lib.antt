@@ -17,3 +17,5 @@ pub mod StretchLaws
 pub mod SizeLaws
 pub mod PruneLaws
 pub mod ParentLaws
+pub mod Large
+pub mod LargeLaws
