@@ -4,7 +4,16 @@
 
 native() { [ "$(uname -m)" = x86_64 ]; }
 
-tools=$(dirname "$(dirname "$(readlink -f "$(command -v rt)")")")/on/$(uname -m)/toolchain
+tools=${RATTLE_HOME:-$(dirname "$(dirname "$(readlink -f "$(command -v rt)")")")}/on/$(uname -m)/toolchain
+
+# The library, proved anew where something has changed; what rt says is shown only where it fails.
+library() {
+    mkdir -p target/c
+    rt staticlib desk > target/c/library.log 2>&1 || {
+        cat target/c/library.log
+        return 1
+    }
+}
 
 # build PROGRAM FLAG-OR-SOURCE..: links the library in
 build() {
