@@ -64,7 +64,7 @@ static double seconds(reader *read, size_t times)
     return (double)(b.tv_sec - a.tv_sec) + 1e-9 * (double)(b.tv_nsec - a.tv_nsec);
 }
 
-/* Both readers by turns, so that a slow moment of the machine falls on both. */
+/* Both readers by turns, so that a slow moment falls on both. */
 static void time_both(void)
 {
     size_t times = 1000;
