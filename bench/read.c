@@ -89,7 +89,11 @@ static __attribute__((noinline)) size_t depth(int writes)
 {
     uint8_t *here = NULL;
     for (int turn = 0; turn < 2; turn++) {
+#ifdef __x86_64__
         __asm__ volatile("mov %%rsp, %0" : "=r"(here));
+#else
+        __asm__ volatile("mov %0, sp" : "=r"(here));
+#endif
         for (volatile uint8_t *p = stack; p < here; p++)
             *p = PAINT;
         if (writes)

@@ -15,6 +15,36 @@ library() {
     }
 }
 
+# On another processor: the library compiled for this one, target/c/NAME.a, from the same proved code by the kit's own compiler, for a
+# benchmark whose times are to mean something. A copy of the kit made of links has a compiler that asks for this processor.
+here_library() {
+    kit=$(dirname "$(dirname "$(dirname "$tools")")") copy=$PWD/target/c/kit machine=$(uname -m)
+    rm -rf "$copy"
+    mkdir -p "$copy/on/$machine/toolchain/bin"
+    for f in "$kit"/*; do [ "$(basename "$f")" = on ] || ln -s "$f" "$copy/"; done
+    for f in "$kit/on/$machine"/*; do [ "$(basename "$f")" = toolchain ] || ln -s "$f" "$copy/on/$machine/"; done
+    for f in "$tools"/*; do [ "$(basename "$f")" = bin ] || ln -s "$f" "$copy/on/$machine/toolchain/"; done
+    for f in "$tools"/bin/*; do [ "$(basename "$f")" = clang ] || ln -s "$f" "$copy/on/$machine/toolchain/bin/"; done
+    cat > "$copy/on/$machine/toolchain/bin/clang" <<END
+#!/bin/sh
+for a; do
+    case \$a in
+    --target=*) set -- "\$@" --target=$machine-unknown-linux-gnu -Wno-override-module ;;
+    -march=* | -Werror) ;;
+    *) set -- "\$@" "\$a" ;;
+    esac
+    shift
+done
+exec "$tools/bin/clang" "\$@"
+END
+    chmod +x "$copy/on/$machine/toolchain/bin/clang"
+    RATTLE_HOME=$copy rt staticlib "$1" > target/c/library.log 2>&1 || {
+        cat target/c/library.log
+        return 1
+    }
+    mv "target/staticlib/lib$1.a" "target/c/$1.a"
+}
+
 # build PROGRAM FLAG-OR-SOURCE..: links the library in
 build() {
     program=$1
