@@ -7,7 +7,7 @@ use Rattle.sheet.specs.declared.Outcome.{Outcome}
 use Rattle.sheet.specs.declared.Outcome.the-variants.{Done, Refused}
 use Rattle.sheet.specs.Sheet.{Found, fail, these, encodeAll}
 
--- an answer beside an array whose front holds the numbers
+-- an answer beside a list whose front holds the numbers
 abbrev pub found : Outcome → List ℕ → Found
 found (Done n) xs = these (take n xs)
 found (Refused w d) xs = fail w d

@@ -10,3 +10,5 @@ pub mod ValidLaws
 pub mod TripLaws
 pub mod SizeLaws
 pub mod FrontLaws
+pub mod Unique
+pub mod Figures

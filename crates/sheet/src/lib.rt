@@ -228,19 +228,12 @@ fn step_on(got: numbers::Got, size: usize, at: usize, rule: Rule) -> Step
     }
 }
 
-// The numbers of a sheet, beside the answer.
-struct Listed {
-    answer: Outcome,
-    values: [u32; 231],
-}
-
-// Reads a sheet's numbers into an array of the greatest length that they can have.
-fn numbers_of(bytes: &[u8]) -> Listed
-    ensures same { λ r. ⌜ found (r .answer) (r .values) ≡ sheetOf (now (bytes .entry)) ⌝ }
-    ensures few { λ r. ⌜ countOf (r .answer) ≤ most ⌝ }
-    ensures long { λ r. ⌜ length (r .values) ≡ most ⌝ }
+// Reads a sheet's numbers into a list of the greatest length that they can have: their count, or why there are none.
+fn numbers_of(bytes: &[u8], values: &mut [u32]) -> Outcome
+    requires { ⌜ length (now values) ≡ most ⌝ }
+    ensures same { λ r. ⌜ found r (now (values .exit)) ≡ sheetOf (now (bytes .entry)) ⌝ }
+    ensures few { λ r. ⌜ countOf r ≤ most ⌝ }
 {
-    let mut values = [0u32; 231];
     let mut seen = Seen {
         edition: 0,
         servers: 0,
@@ -263,16 +256,10 @@ fn numbers_of(bytes: &[u8]) -> Listed
                 i = i + 1;
             }
             Step::Stop(why, place) => {
-                return Listed {
-                    answer: Outcome::Refused(why, place),
-                    values: values,
-                };
+                return Outcome::Refused(why, place);
             }
             Step::End => {
-                return Listed {
-                    answer: Outcome::Done(i),
-                    values: values,
-                };
+                return Outcome::Done(i);
             }
         }
     }
@@ -295,14 +282,12 @@ pub fn read_sheet(bytes: &[u8], numbers: &mut [u32]) -> Outcome
     ensures gives { λ r. ⌜ r ≡ readGives (sheetOf (now (bytes .entry))) (length (now (numbers .entry))) ⌝ }
     ensures holds { λ _. ⌜ now (numbers .exit) ≡ readHolds (sheetOf (now (bytes .entry))) (now (numbers .entry)) ⌝ }
 {
-    let listed = numbers_of(bytes);
-    let answer = listed.answer;
-    match answer {
+    let mut values = [0u32; 231];
+    match numbers_of(bytes, &mut values) {
         Outcome::Done(n) => {
             if numbers.len() < n {
                 return Outcome::Refused(Why::Short, n);
             }
-            let values = listed.values;
             copy_front(&values, n, numbers);
             Outcome::Done(n)
         }

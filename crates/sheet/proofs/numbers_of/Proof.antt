@@ -1,5 +1,5 @@
 -- `sheet::numbers_of` meets its contract. The invariant (`Reading`): what the sheet is read as is the numbers passed, which stand at
--- the front of the array, put before what is read from here. The measure is how many steps are left.
+-- the front of the list, put before what is read from here. The measure is how many steps are left.
 -- Assumes nothing.
 use Prim.Native.Nat.{_+_, _-_, _<_}
 use mathlib.Core.Path.{_≡_, refl, sym, _∙_}
@@ -22,7 +22,7 @@ abbrev μ-loop : tie.MeasureT-loop
 
 -- the step of a turn, by its place and what is known there
 stepped : (c : tie.After-step-on Inv-loop μ-loop)
-    → stepOn (numberAt (c .before .before .before .before .before .args .bytes .now) (c .before .before .before .loop .at)) (length (c .before .before .before .before .before .args .bytes .now)) (c .before .before .before .loop .at) (ruleAt (c .before .before .before .loop .i) (c .before .before .before .loop .seen))
+    → stepOn (numberAt (c .before .before .before .before .before .before .args .bytes .now) (c .before .before .before .loop .at)) (length (c .before .before .before .before .before .before .args .bytes .now)) (c .before .before .before .loop .at) (ruleAt (c .before .before .before .loop .i) (c .before .before .before .loop .seen))
     ≡ c .step-on .result
 stepped c = sym (c .step-on .ensures ∙ rw (c .before .rule-at .ensures, c .before .before .read-number .ensures))
 
@@ -30,7 +30,7 @@ below : (c : tie.After-x Inv-loop μ-loop) → c .before .before .before .before
 below c = room _ _ (c .before .before .before .before .before .loop .inv .walking) (stepped (c .before .before) ∙ c .x .given .1)
 
 loop-holds : tie.Need-loop-holds Inv-loop μ-loop
-loop-holds c = begin-reading (c .before .args .bytes .now) _ refl
+loop-holds c = begin-reading _ _ (c .before .before .pre)
 
 read-number-requires : tie.Need-read-number-requires Inv-loop μ-loop
 read-number-requires c κs = search needs
@@ -47,8 +47,8 @@ enum-known-x c = search needs
 mul-values : tie.Need-mul-values Inv-loop μ-loop
 mul-values c = omega (arith, below (c .before))
 
-array-write-values : tie.Need-array-write-values Inv-loop μ-loop
-array-write-values c = below (c .before)
+slice-write-values : tie.Need-slice-write-values Inv-loop μ-loop
+slice-write-values c = omega (arith, below (c .before), c .before .before .before .before .before .before .loop .inv .long)
 
 after-requires : tie.Need-after-requires Inv-loop μ-loop
 after-requires c κs = search needs
@@ -65,14 +65,20 @@ loop-again c = rw (c .after .ensures) (turn-reading _ _ (c .before .before .befo
 enum-known-why : tie.Need-enum-known-why Inv-loop μ-loop
 enum-known-why c = search needs
 
+same-length : tie.Need-same-length Inv-loop μ-loop
+same-length c = search needs
+
 returns : tie.Need-returns Inv-loop μ-loop
-returns c = (sym (refused _ _ (c .before .before .before .before .before .before .loop .inv .walking) (stepped (c .before .before .before) ∙ c .before .why .given .1)), (omega arith, c .before .before .before .before .before .before .loop .inv .long))
+returns c = (sym (refused _ _ (c .before .before .before .before .before .before .loop .inv .walking) (stepped (c .before .before .before) ∙ c .before .why .given .1)), omega arith)
 
 enum-told : tie.Need-enum-told Inv-loop μ-loop
 enum-told c = search needs
 
+same-length-2 : tie.Need-same-length-2 Inv-loop μ-loop
+same-length-2 c = search needs
+
 returns-2 : tie.Need-returns-2 Inv-loop μ-loop
-returns-2 c = (sym (finished (c .before .before .before .before .before .loop .inv .walking) (stepped (c .before .before) ∙ c .enum-told .given .1)), (omega (arith, c .before .before .before .before .before .loop .inv .walking .turns), c .before .before .before .before .before .loop .inv .long))
+returns-2 c = (sym (finished (c .before .before .before .before .before .loop .inv .walking) (stepped (c .before .before) ∙ c .enum-told .given .1)), omega (arith, c .before .before .before .before .before .loop .inv .walking .turns))
 
 pub numbers-of-spec : {M : Type 1} → statement M
 numbers-of-spec =
@@ -86,12 +92,14 @@ numbers-of-spec =
     step-on-requires
     enum-known-x
     mul-values
-    array-write-values
+    slice-write-values
     after-requires
     add-i
     loop-less
     loop-again
     enum-known-why
+    same-length
     returns
     enum-told
+    same-length-2
     returns-2)

@@ -1,0 +1,150 @@
+-- Every detail that the reader or the writer gives is below 2^32, so that refusal and detail can be told apart in one number. A place is at
+-- most five bytes (writer: one) for each number passed, and a sheet has at most 231 numbers of at most five bytes.
+-- Assumes nothing.
+use Prim.Native.Nat.{ℕ, zero, suc, _+_, _*_, _≤_, _<_}
+use mathlib.Core.Path.{_≡_, refl, sym, _∙_}
+use mathlib.Core.List.{List, [], _∷_}
+use mathlib.Core.Bool.{Bool, true, false, cond}
+use native.Mathlib.Nat.{mul-suc}
+use native.Mathlib.Omega.{arith}
+use lib.ListN.{length, length-append}
+use lib.Dec.{ltb}
+use Rattle.numbers.specs.Seven.{numberAt}
+use Rattle.numbers.specs.SevenLaws.{Bytes, WasRead, written-read, encode-few}
+use Rattle.numbers.specs.declared.Got.{Got}
+use Rattle.numbers.specs.declared.Got.the-variants as got
+use Rattle.sheet.specs.declared.Seen.{Seen}
+use Rattle.sheet.specs.declared.Step.{Step}
+use Rattle.sheet.specs.declared.Step.the-variants.{Value, Stop, End}
+use Rattle.sheet.specs.declared.Outcome.the-variants.{Done, Refused}
+use Rattle.sheet.specs.declared.Why.{Why}
+use Rattle.sheet.specs.declared.Why.the-variants.{Short}
+use Rattle.sheet.specs.Rule.{most, ruleAt, seenAfter}
+use Rattle.sheet.specs.Refusal.{detail}
+use Rattle.sheet.specs.Sheet.{Found, fail, these, also, onStep, stepOn, walk, nothing, sheetOf, entryAt, listOf, encodeAll, readGives, writeGives}
+use Rattle.sheet.specs.StepLaws.{Small, Gave, step-gave, step-stopped, past-late, small-after, Entry, entry-was}
+use Rattle.sheet.specs.WalkLaws.{Walked, gave, ended, walked, walk-none}
+
+-- How far a number reaches in a source: five bytes at most in a byte string, one entry in a list.
+
+abbrev pub Reaches : ℕ → (ℕ → Got) → Type 0
+Reaches w source = (at x next : ℕ) → source at ≡ got.Number x next → next ≤ at + w
+
+pub bytes-reach : (s : List ℕ) → Bytes s → Reaches 5 (numberAt s)
+bytes-reach s b at x next e = let r : WasRead s at x next = written-read s at x next b e in omega (arith, r .place, encode-few x)
+
+pub entries-reach : (xs : List ℕ) → Reaches 1 (entryAt xs)
+entries-reach xs at x next e = let t : Entry xs at x next = entry-was xs at x next e in omega (arith, t .place)
+
+-- A refusal's place.
+
+also-fail : (x : ℕ) (f : Found) (w : Why) (d : ℕ) → also x f ≡ fail w d → f ≡ fail w d
+also-fail x (fail w′ d′) w d e = e
+also-fail x (these zs) w d e = let q : _≡_ {A = ℕ} 0 1 = cc in absurd (omega arith)
+
+-- A walk that refuses either passed a number and refuses behind it, or refuses here.
+pub data Stopped (source : ℕ → Got) (size k at i : ℕ) (e : Seen) (w : Why) (d : ℕ) : Type 0 where
+  behind : (x next : ℕ) → Gave (source at) (ruleAt i e) x next → walk source size k next (i + 1) (seenAfter e i x) ≡ fail w d
+      → Stopped source size k at i e w d
+  here : d ≡ at → Stopped source size k at i e w d
+
+stopped-by : (st : Step) (source : ℕ → Got) (size k at i : ℕ) (e : Seen) (w : Why) (d : ℕ) → stepOn (source at) size at (ruleAt i e) ≡ st
+    → onStep st (λ x next. also x (walk source size k next (i + 1) (seenAfter e i x))) ≡ fail w d → Stopped source size k at i e w d
+stopped-by (Value x next) source size k at i e w d s h =
+    behind x next (step-gave (source at) size at (ruleAt i e) x next s) (also-fail x (walk source size k next (i + 1) (seenAfter e i x)) w d h)
+stopped-by (Stop w′ d′) source size k at i e w d s h =
+    let q : d′ ≡ d = cc in
+    here (sym q ∙ step-stopped (source at) size at (ruleAt i e) w′ d′ s)
+stopped-by End source size k at i e w d s h = let q : _≡_ {A = ℕ} 0 1 = cc in absurd (omega arith)
+
+pub stopped : (source : ℕ → Got) (size k at i : ℕ) (e : Seen) (w : Why) (d : ℕ) → walk source size (suc k) at i e ≡ fail w d
+    → Stopped source size k at i e w d
+stopped source size k at i e w d h = stopped-by (stepOn (source at) size at (ruleAt i e)) source size k at i e w d refl h
+
+-- no number is passed behind the last field
+stops-late : (source : ℕ → Got) (size at i : ℕ) (e : Seen) (w : Why) (d : ℕ) → most ≤ i → Small e → Stopped source size 0 at i e w d → d ≡ at
+stops-late source size at i e w d l m (behind x next v h) =
+    let q : _≡_ {A = Bool} true false = rw (past-late i e l m) at (v .more) in
+    let z : _≡_ {A = ℕ} 0 1 = cc in
+    absurd (omega arith)
+stops-late source size at i e w d l m (here p) = p
+
+place-by : (n : ℕ) (source : ℕ → Got) (size k at i : ℕ) (e : Seen) (w : Why) (d : ℕ) → Reaches n source → Small e
+    → Stopped source size (suc k) at i e w d
+    → ((next : ℕ) (e′ : Seen) → Small e′ → walk source size (suc k) next (i + 1) e′ ≡ fail w d → d ≤ next + n * k) → d ≤ at + n * suc k
+place-by n source size k at i e w d r m (behind x next v h) go =
+    let l : d ≤ next + n * k = go next (seenAfter e i x) (small-after e i x m (v .fine)) h in
+    omega (arith, l, r at x next (v .read), mul-suc n k)
+place-by n source size k at i e w d r m (here p) go = omega arith
+
+-- where k more numbers may be passed, the refusal's place is at most k numbers further
+pub place-near : (n : ℕ) (source : ℕ → Got) (size k at i : ℕ) (e : Seen) (w : Why) (d : ℕ) → Reaches n source → i + k ≡ most → Small e
+    → walk source size (suc k) at i e ≡ fail w d → d ≤ at + n * k
+place-near n source size zero at i e w d r c m h = omega (arith, stops-late source size at i e w d (omega arith) m (stopped source size 0 at i e w d h))
+place-near n source size (suc k) at i e w d r c m h =
+    place-by n source size k at i e w d r m (stopped source size (suc k) at i e w d h)
+    (λ next e′ m′ t. place-near n source size k next (i + 1) e′ w d r (omega arith) m′ t)
+
+nothing-small : Small nothing
+nothing-small = record { servers = omega arith; flows = omega arith }
+
+-- "its offset", "offset of the first": at most 231 numbers of five bytes stand before it
+pub read-place : (s : List ℕ) (w : Why) (d : ℕ) → Bytes s → sheetOf s ≡ fail w d → d ≤ 5 * most
+unfolding sheetOf
+read-place s w d b h = place-near 5 (numberAt s) (length s) most 0 0 nothing w d (bytes-reach s b) refl nothing-small h
+
+-- the writer's "offsets count numbers"
+pub list-place : (xs : List ℕ) (w : Why) (d : ℕ) → listOf xs ≡ fail w d → d ≤ most
+unfolding listOf
+list-place xs w d h = place-near 1 (entryAt xs) (length xs) most 0 0 nothing w d (entries-reach xs) refl nothing-small h
+
+-- The count of a sheet's numbers and the length of its bytes.
+
+count-by : (source : ℕ → Got) (size k at i : ℕ) (e : Seen) (ys : List ℕ) → Walked source size (suc k) at i e ys
+    → ((next : ℕ) (e′ : Seen) (zs : List ℕ) → walk source size (suc k) next (i + 1) e′ ≡ these zs → length zs ≤ k) → length ys ≤ suc k
+count-by source size k at i e ys (gave x next zs v y h) go = rw y (omega (arith, go next (seenAfter e i x) zs h))
+count-by source size k at i e ys (ended y p l) go = rw y (omega arith)
+
+none-by : (source : ℕ → Got) (size at i : ℕ) (e : Seen) (ys : List ℕ) → Walked source size 0 at i e ys → length ys ≤ 0
+none-by source size at i e ys (gave x next zs v y h) = absurd (walk-none source size next (i + 1) (seenAfter e i x) zs h)
+none-by source size at i e ys (ended y p l) = rw y (omega arith)
+
+-- a walk of k + 1 steps gives at most k numbers: its last step sees the end
+pub count-few : (source : ℕ → Got) (size k at i : ℕ) (e : Seen) (ys : List ℕ) → walk source size (suc k) at i e ≡ these ys → length ys ≤ k
+count-few source size zero at i e ys h = none-by source size at i e ys (walked source size 0 at i e ys h)
+count-few source size (suc k) at i e ys h =
+    count-by source size k at i e ys (walked source size (suc k) at i e ys h) (λ next e′ zs t. count-few source size k next (i + 1) e′ zs t)
+
+pub read-count : (s ys : List ℕ) → sheetOf s ≡ these ys → length ys ≤ most
+unfolding sheetOf
+read-count s ys h = count-few (numberAt s) (length s) most 0 0 nothing ys h
+
+pub list-count : (xs ys : List ℕ) → listOf xs ≡ these ys → length ys ≤ most
+unfolding listOf
+list-count xs ys h = count-few (entryAt xs) (length xs) most 0 0 nothing ys h
+
+pub encode-all-few : (xs : List ℕ) → length (encodeAll xs) ≤ 5 * length xs
+encode-all-few [] = omega arith
+encode-all-few (x ∷ xs) = rw length-append (omega (arith, encode-few x, encode-all-few xs))
+
+-- Every detail is below 2^32, whatever the room.
+
+needed-detail : (t : Bool) (n : ℕ) → detail (cond t (Refused Short n) (Done n)) ≡ n
+needed-detail true n = refl
+needed-detail false n = refl
+
+read-by : (f : Found) (s : List ℕ) (room : ℕ) → Bytes s → sheetOf s ≡ f → detail (readGives f room) < 4294967296
+read-by (fail w d) s room b e = omega (arith, read-place s w d b e)
+read-by (these ys) s room b e = rw (needed-detail (ltb room (length ys)) (length ys)) (omega (arith, read-count s ys e))
+
+pub read-detail-small : (s : List ℕ) (room : ℕ) → Bytes s → detail (readGives (sheetOf s) room) < 4294967296
+read-detail-small s room b = read-by (sheetOf s) s room b refl
+
+write-by : (f : Found) (xs : List ℕ) (room : ℕ) → listOf xs ≡ f → detail (writeGives f room) < 4294967296
+write-by (fail w d) xs room e = omega (arith, list-place xs w d e)
+write-by (these ys) xs room e =
+    let n = length (encodeAll ys) in
+    rw (needed-detail (ltb room n) n) (omega (arith, encode-all-few ys, list-count xs ys e))
+
+pub write-detail-small : (xs : List ℕ) (room : ℕ) → detail (writeGives (listOf xs) room) < 4294967296
+write-detail-small xs room = write-by (listOf xs) xs room refl

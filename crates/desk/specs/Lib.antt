@@ -1,0 +1,3 @@
+pub mod Packed
+pub mod DetailLaws
+pub mod Unique
