@@ -8,6 +8,7 @@ pub mod Fits
 pub mod Amounts
 pub mod Fine
 pub mod Stands
+pub mod Searched
 pub mod TestLaws
 pub mod SumLaws
 pub mod PlanLaws
@@ -17,3 +18,5 @@ pub mod StretchLaws
 pub mod SizeLaws
 pub mod PruneLaws
 pub mod ParentLaws
+pub mod GridLaws
+pub mod SearchLaws
