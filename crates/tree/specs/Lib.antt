@@ -20,3 +20,4 @@ pub mod PruneLaws
 pub mod ParentLaws
 pub mod GridLaws
 pub mod SearchLaws
+pub mod Figures
