@@ -8,6 +8,7 @@ pub mod Fits
 pub mod Amounts
 pub mod Fine
 pub mod Stands
+pub mod Searched
 pub mod TestLaws
 pub mod SumLaws
 pub mod PlanLaws
@@ -19,3 +20,6 @@ pub mod PruneLaws
 pub mod ParentLaws
 pub mod Large
 pub mod LargeLaws
+pub mod GridLaws
+pub mod SearchLaws
+pub mod Figures
