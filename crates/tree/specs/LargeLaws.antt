@@ -5,7 +5,6 @@ use Prim.Native.Nat.{ℕ, zero, suc, _+_, _-_, _*_, _/_, _^_, _≤_, _<_}
 use mathlib.Core.Path.{_≡_, refl, sym, ap, _∙_}
 use mathlib.Core.Bool.{Bool, true, false, cond, _||_}
 use mathlib.Core.List.{List, [], _∷_, _++_, map}
-use native.Mathlib.Nat.{mul-le-mul, mul-le-mul-right, div-le-of-le-mul}
 use native.Mathlib.Omega.{arith}
 use lib.Dec.{ltb, eqb}
 use lib.ListN.{length, getD, replicate}
@@ -20,12 +19,13 @@ use Rattle.row.specs.declared.Flow.{Flow}
 use Rattle.row.specs.Tandem.{Tandem}
 use Rattle.row.specs.Groups.{groups, reads}
 use Rattle.row.specs.Accepted.{Accepted, Limits}
-use Rattle.row.specs.OfSheet.{listed}
-use Rattle.tree.specs.Grid.{stepsOf, flat, pointsFrom, pointsOf}
+use Rattle.tree.specs.Grid.{stepsOf, pointsOf}
 use Rattle.tree.specs.Plan.{Node, nodeOf, nodeCurve, headOf, tailOf, plan}
 use Rattle.tree.specs.Fine.{Fine, AllFine}
 use Rattle.tree.specs.Bound.{answerAt}
 use Rattle.tree.specs.SizeLaws.{zeros-at, start-small, plan-fine, delay-small}
+use Rattle.tree.specs.Searched.{Each, Low}
+use Rattle.tree.specs.GridLaws.{points-low}
 use Rattle.tree.specs.Large.{some, large, largeCurve, largeNode, largeAt, tooLarge}
 
 neither : (a b : Bool) → a ≡ false → b ≡ false → (a || b) ≡ false
@@ -81,56 +81,11 @@ fine-plan ss (g ∷ gs) es f =
     neither (largeNode (nodeOf (nodeCurve ss g gs (plan ss gs (tailOf es))) g (headOf es))) (some largeNode (plan ss gs (tailOf es)))
     (fine-node (nodeCurve ss g gs (plan ss gs (tailOf es))) g (headOf es) (f .0)) (fine-plan ss gs (tailOf es) (f .1))
 
--- The points: each extra is one of the steps, and each step is at most `start`.
-
-abbrev AllBelow : ℕ → List ℕ → Type 0
-AllBelow b [] = Unit {0}
-AllBelow b (x ∷ l) = (x < b) × AllBelow b l
-
-below-append : (b : ℕ) (l m : List ℕ) → AllBelow b l → AllBelow b m → AllBelow b (l ++ m)
-below-append b [] m h k = k
-below-append b (x ∷ l) m h k = (h .0, below-append b l m (h .1) k)
-
-below-at : (b : ℕ) (l : List ℕ) → 0 < b → AllBelow b l → (k : ℕ) → getD l k 0 < b
-below-at b [] p h k = p
-below-at b (x ∷ l) p h zero = h .0
-below-at b (x ∷ l) p h (suc k) = below-at b l p (h .1) k
-
-below-listed : (b n : ℕ) (f : ℕ → ℕ) → ((i : ℕ) → i < n → f i < b) → AllBelow b (listed n f)
-unfolding listed
-below-listed b zero f h = tt
-below-listed b (suc n) f h = below-append b (listed n f) (f n ∷ []) (below-listed b n f (λ i l. h i (omega arith))) (h n (omega arith), tt)
-
-pub steps-below : (start g : ℕ) → 2 ≤ g → AllBelow (suc start) (stepsOf start g)
-unfolding stepsOf
-steps-below start g h =
-    below-listed (suc start) g (λ i. i * start / (g - 1))
-    (λ i l. let d = div-le-of-le-mul (g - 1) (mul-le-mul-right start (le i l)) in omega arith)
-  where
-    le : (i : ℕ) → i < g → i ≤ g - 1
-    le i l = omega arith
-
-none-append : {A : Type 0} (p : A → Bool) (l m : List A) → some p l ≡ false → some p m ≡ false → some p (l ++ m) ≡ false
+-- none passes, if each has a property with which none does
+none-each : {A : Type 0} (P : A → Type 0) (p : A → Bool) (l : List A) → ((x : A) → P x → p x ≡ false) → Each P l → some p l ≡ false
 unfolding some
-none-append p [] m h k = k
-none-append p (x ∷ l) m h k = by (p x) h (λ e. none-append p l m e k)
-  where
-    by : (t : Bool) → (t || some p l) ≡ false → (some p l ≡ false → some p (l ++ m) ≡ false) → (t || some p (l ++ m)) ≡ false
-    by true h go = h
-    by false h go = go h
-
-none-flat : {A : Type 0} (p : A → Bool) (h : ℕ → List A) (b : ℕ) (l : List ℕ) → AllBelow b l → ((e : ℕ) → e < b → some p (h e) ≡ false) → some p (flat h l) ≡ false
-unfolding some
-none-flat p h b [] a k = refl
-none-flat p h b (e ∷ l) a k = none-append p (h e) (flat h l) (k e (a .0)) (none-flat p h b l (a .1) k)
-
-none-points : (p : List ℕ → Bool) (b : ℕ) (steps : List ℕ) → AllBelow b steps → ((es : List ℕ) → AllBelow b es → p es ≡ false)
-    → (n : ℕ) (fixed : List ℕ) → AllBelow b fixed → some p (pointsFrom steps fixed n) ≡ false
-unfolding some
-none-points p b steps s h zero fixed f = neither (p fixed) false (h fixed f) refl
-none-points p b steps s h (suc n) fixed f =
-    none-flat p (λ (e : ℕ). pointsFrom steps (fixed ++ (e ∷ [])) n) b steps s
-    (λ e l. none-points p b steps s h n (fixed ++ (e ∷ [])) (below-append b fixed (e ∷ []) f (l, tt)))
+none-each P p [] h e = refl
+none-each P p (x ∷ l) h e = neither (p x) (some p l) (h x (e .0)) (none-each P p l h (e .1))
 
 module _ (row : Tandem) (ok : Accepted row) (limits : Limits row) where
   none-at : (es : List ℕ) → ((k : ℕ) → getD es k 0 < 2 ^ 30) → largeAt row es ≡ false
@@ -140,7 +95,7 @@ module _ (row : Tandem) (ok : Accepted row) (limits : Limits row) where
       (fine-plan (row .servers) (reads row) (0 ∷ es) (plan-fine row ok limits es low)) (small-one (answerAt row es .delay) (omega (arith, delay-small row ok limits es low)))
 
   pub never-too-large : (mode g : ℕ) → 2 ≤ g → tooLarge row mode g ≡ false
-  unfolding tooLarge pointsOf
+  unfolding tooLarge
   never-too-large mode g h = neither first (cond (eqb mode 0) others false) (none-at (replicate n 0) (λ k. omega (arith, zeros-at n k))) (by (eqb mode 0))
     where
       n : ℕ
@@ -153,12 +108,12 @@ module _ (row : Tandem) (ok : Accepted row) (limits : Limits row) where
       first = largeAt row (replicate n 0)
 
       others : Bool
-      others = some (largeAt row) (pointsFrom (stepsOf start g) [] n)
+      others = some (largeAt row) (pointsOf (stepsOf start g) n)
 
       none : others ≡ false
       none =
-          none-points (largeAt row) (suc start) (stepsOf start g) (steps-below start g h)
-          (λ es a. none-at es (λ k. let b = below-at (suc start) es (omega arith) a k in omega (arith, start-small row ok limits n))) n [] tt
+          none-each (Low start n) (largeAt row) (pointsOf (stepsOf start g) n)
+          (λ es a. none-at es (λ k. omega (arith, a .low k, start-small row ok limits n))) (points-low start g n h)
 
       by : (t : Bool) → cond t others false ≡ false
       by true = none
