@@ -1,4 +1,4 @@
 pub mod Packed
 pub mod DetailLaws
 pub mod Unique
-pub mod Verdict
+pub mod Answer

@@ -3,20 +3,20 @@
 use Prim.Native.Nat.{ℕ}
 use mathlib.Core.Bool.{Bool, true, false, cond}
 use mathlib.Core.List.{List, [], _∷_}
-use lib.Dec.{ltb}
 use lib.ListN.{length}
 use Rattle.sheet.specs.declared.Why.{Why}
 use Rattle.sheet.specs.Refusal.{refusal}
-use Rattle.sheet.specs.Sheet.{Found, fail, these, sheetOf, encodeAll, holds}
+use Rattle.sheet.specs.Sheet.{Found, fail, these, sheetOf, encodeAll}
 use Rattle.sheet.specs.Valid.{serverCount, mode, grid}
 use Rattle.row.specs.declared.Check.{Check}
-use Rattle.row.specs.declared.Check.the-variants.{Passed, Crossing, Crowded, Points}
+use Rattle.row.specs.declared.Check.the-variants as check
 use Rattle.row.specs.Tandem.{Tandem, Path}
 use Rattle.row.specs.Groups.{groups}
 use Rattle.row.specs.OfSheet.{tandemOf, gridOf, checkOf}
 use Rattle.tree.specs.Bound.{searched}
 use Rattle.tree.specs.Large.{tooLarge}
-use Rattle.desk.specs.Packed.{asOne}
+use Rattle.analysis.specs.declared.Judged.{Judged}
+use Rattle.analysis.specs.declared.Judged.the-variants.{Refused, Crossing, Crowded, Points, TooLarge, Bounded}
 
 -- "bound, start, g (0 replaced by its meaning), number of groups, each group's wait", and the groups' paths for the report
 pub record Listing : Type 0 where
@@ -25,10 +25,6 @@ pub record Listing : Type 0 where
   pub grid : ℕ
   pub paths : List Path
   pub waits : List ℕ
-
-pub data Verdict : Type 0 where
-  refused : ℕ → ℕ → Verdict
-  bounded : Listing → Verdict
 
 -- the grid that a sheet's numbers ask for
 abbrev pub gridUsed : List ℕ → ℕ
@@ -39,19 +35,49 @@ listingOf xs =
     let found = searched (tandemOf xs) (mode xs) (gridUsed xs) in
     record { bound = found .best .delay; start = found .start; grid = gridUsed xs; paths = groups (tandemOf xs); waits = found .best .waits }
 
--- "then 3, 6, 7, 8, 9": the numbers of the row's refusals, with their details
-abbrev pub onCheck : Check → List ℕ → Verdict
-onCheck Crossing xs = refused 6 0
-onCheck (Crowded j) xs = refused 7 j
-onCheck (Points n) xs = refused 8 n
-onCheck Passed xs = cond (tooLarge (tandemOf xs) (mode xs) (gridUsed xs)) (refused 9 0) (bounded (listingOf xs))
+-- "then 3, 6, 7, 8, 9": the first refusal of a sheet's row, if it has one
+abbrev pub judgedRow : Check → List ℕ → Judged
+judgedRow check.Crossing xs = Crossing
+judgedRow (check.Crowded j) xs = Crowded j
+judgedRow (check.Points n) xs = Points n
+judgedRow check.Passed xs = cond (tooLarge (tandemOf xs) (mode xs) (gridUsed xs)) TooLarge Bounded
+
+-- a refusal, or the bound with its listing
+pub data Verdict : Type 0 where
+  refused : Judged → Verdict
+  bounded : Listing → Verdict
+
+abbrev pub verdictWhere : Judged → Listing → Verdict
+verdictWhere (Refused w d) l = refused (Refused w d)
+verdictWhere Crossing l = refused Crossing
+verdictWhere (Crowded j) l = refused (Crowded j)
+verdictWhere (Points n) l = refused (Points n)
+verdictWhere TooLarge l = refused TooLarge
+verdictWhere Bounded l = bounded l
 
 abbrev pub onSheet : Found → Verdict
-onSheet (fail w d) = refused (refusal w) d
-onSheet (these xs) = onCheck (checkOf xs) xs
+onSheet (fail w d) = refused (Refused w d)
+onSheet (these xs) = verdictWhere (judgedRow (checkOf xs) xs) (listingOf xs)
 
 unfoldable pub verdictOf : List ℕ → Verdict
 verdictOf bytes = onSheet (sheetOf bytes)
+
+-- document 01's number of each refusal, and its detail
+abbrev pub judgedNumber : Judged → ℕ
+judgedNumber (Refused w d) = refusal w
+judgedNumber Crossing = 6
+judgedNumber (Crowded j) = 7
+judgedNumber (Points n) = 8
+judgedNumber TooLarge = 9
+judgedNumber Bounded = 0
+
+abbrev pub judgedDetail : Judged → ℕ
+judgedDetail (Refused w d) = d
+judgedDetail Crossing = 0
+judgedDetail (Crowded j) = j
+judgedDetail (Points n) = n
+judgedDetail TooLarge = 0
+judgedDetail Bounded = 0
 
 -- "The answer record is bound, start, g, number of groups, each group's wait, as seven-bit numbers."
 abbrev pub recordNumbers : Listing → List ℕ
@@ -59,13 +85,3 @@ recordNumbers l = l .bound ∷ l .start ∷ l .grid ∷ length (l .paths) ∷ l 
 
 abbrev pub recordOf : Listing → List ℕ
 recordOf l = encodeAll (recordNumbers l)
-
--- "it gets one number, refusal × 2^32 + detail, with refusal 0 and the written length on success"; 10, last, "the buffer is too short"
-abbrev pub answerGives : Verdict → ℕ → ℕ
-answerGives (refused r d) room = asOne r d
-answerGives (bounded l) room = cond (ltb room (length (recordOf l))) (asOne 10 (length (recordOf l))) (asOne 0 (length (recordOf l)))
-
--- "On refusal the buffer stays as it was"; "bytes past the length stay"
-abbrev pub answerHolds : Verdict → List ℕ → List ℕ
-answerHolds (refused r d) answer = answer
-answerHolds (bounded l) answer = holds (recordOf l) answer
