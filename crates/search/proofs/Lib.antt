@@ -1,0 +1,5 @@
+pub mod Walks
+pub mod Nodes
+pub mod Stepping
+pub mod Scanning
+pub mod Searching
