@@ -4,3 +4,16 @@ pub mod Groups
 pub mod Checks
 pub mod Accepted
 pub mod OfSheet
+pub mod Alike
+pub mod TestLaws
+pub mod SumLaws
+pub mod TandemLaws
+pub mod AlikeLaws
+pub mod CountLaws
+pub mod Sentences
+pub mod CheckLaws
+pub mod Ranges
+pub mod OfSheetLaws
+pub mod SameLaws
+pub mod Unique
+pub mod Figures
