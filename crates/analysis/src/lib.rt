@@ -10,3 +10,15 @@ pub enum Judged {
     TooLarge,
     Bounded,
 }
+
+// The analysis of a sheet, for the listing and the report: the bound, the start, the grid used, the number of groups; the watched flow
+// and behind it the groups, each as one flow; and each group's wait. All are 0 where the sheet is refused.
+pub struct Analysed {
+    pub judged: Judged,
+    pub bound: u64,
+    pub start: u64,
+    pub grid: usize,
+    pub count: usize,
+    pub groups: [row::Flow; 32],
+    pub waits: [u64; 32],
+}

@@ -1,0 +1,50 @@
+-- How the record `Analysed` of the code holds a verdict.
+-- Assumes nothing.
+use Prim.Native.Nat.{ℕ}
+use mathlib.Core.List.{List}
+use lib.ListN.{length, replicate}
+use Rattle.sheet.specs.Sheet.{Found, fail, these, sheetOf}
+use Rattle.row.specs.declared.Flow.{Flow}
+use Rattle.row.specs.OfSheet.{padded, rowOf, checkOf}
+use Rattle.search.specs.Point.{noFlow}
+use Rattle.analysis.specs.declared.Judged.{Judged}
+use Rattle.analysis.specs.declared.Judged.the-variants.{Refused, Crossing, Crowded, Points, TooLarge, Bounded}
+use Rattle.analysis.specs.declared.Analysed.{Analysed}
+use Rattle.analysis.specs.Verdict.{Listing, listingOf, judgedRow}
+
+-- a refusal, with nothing beside it
+abbrev pub blank : Judged → Analysed
+blank j = record { judged = j; bound = 0; start = 0; grid = 0; count = 0; groups = replicate 32 noFlow; waits = replicate 32 0 }
+
+-- a listing, with the flows that it was worked out of
+abbrev pub filled : List Flow → Listing → Analysed
+filled flows l =
+    record {
+      judged = Bounded;
+      bound = l .bound;
+      start = l .start;
+      grid = l .grid;
+      count = length (l .paths);
+      groups = flows;
+      waits = padded 32 0 (l .waits);
+    }
+
+abbrev pub heldWhere : Judged → Analysed → Analysed
+heldWhere (Refused w d) a = blank (Refused w d)
+heldWhere Crossing a = blank Crossing
+heldWhere (Crowded j) a = blank (Crowded j)
+heldWhere (Points n) a = blank (Points n)
+heldWhere TooLarge a = blank TooLarge
+heldWhere Bounded a = a
+
+-- the analysis of a sheet's numbers
+unfoldable pub judgedHeld : List ℕ → Analysed
+judgedHeld xs = heldWhere (judgedRow (checkOf xs) xs) (filled (rowOf xs .groups) (listingOf xs))
+
+-- and of its bytes
+abbrev pub sheetHeld : Found → Analysed
+sheetHeld (fail w d) = blank (Refused w d)
+sheetHeld (these xs) = judgedHeld xs
+
+unfoldable pub analysedOf : List ℕ → Analysed
+analysedOf bytes = sheetHeld (sheetOf bytes)
