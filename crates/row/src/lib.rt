@@ -211,7 +211,7 @@ fn rates_at(numbers: &[u32], j: usize) -> u64
 {
     let n = flow_total(numbers);
     let mut sum: u64 = 0;
-    let mut f = 0;
+    let mut f: usize = 0;
     while f < n {
         sum = sum + share_at(flow_at(numbers, f), j);
         f = f + 1;
@@ -253,7 +253,7 @@ fn amount_of(a: Flow, rates: bool) -> u64
 
 // A path's number in the groups' order.
 fn place_of(a: Flow) -> usize
-    requires { ⌜ (1 ≤ a .first) × (a .first ≤ 16) × (a .last ≤ 16) ⌝ }
+    requires { ⌜ (1 ≤ a .first) × (a .first ≤ 16) × (1 ≤ a .last) × (a .last ≤ 16) ⌝ }
     ensures { λ r. ⌜ r ≡ placeOf a ⌝ }
 {
     (a.first - 1) * 16 + (16 - a.last)

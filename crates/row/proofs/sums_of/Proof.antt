@@ -6,7 +6,6 @@ use Prim.Native.Nat.{_<_, _≤_, _-_}
 use native.Mathlib.Omega.{arith}
 use lib.ListN.{length}
 use borrow.Author.Needs.{needs}
-use Rattle.sheet.specs.Valid.{serverCount}
 use Rattle.row.specs.OfSheetLaws.{row-flows, ranged}
 use Rattle.row.specs.OfSheet.{tandemOf}
 use Rattle.row.specs.Parts.{Summed}
@@ -24,7 +23,7 @@ flow-total-requires : tie.Need-flow-total-requires Inv-loop μ-loop
 flow-total-requires c κs = search needs
 
 loop-holds : tie.Need-loop-holds Inv-loop μ-loop
-loop-holds c = (omega arith, omega (arith, c .flow-total .ensures .0, row-flows (c .before .before .args .numbers .now)), begin-sums _ _)
+loop-holds c = (omega arith, omega (arith, c .flow-total .ensures .0, row-flows (c .before .before .args .numbers .now)), begin-sums _ (c .before .before .pre) _)
 
 flow-at-requires : tie.Need-flow-at-requires Inv-loop μ-loop
 flow-at-requires c κs = (c .before .before .before .before .pre, omega (arith, c .before .before .flow-total .ensures .0))
@@ -32,13 +31,17 @@ flow-at-requires c κs = (c .before .before .before .before .pre, omega (arith, 
 -- a path's number is below 256
 place : (c : tie.After-place-of Inv-loop μ-loop) → c .place-of .result < 256
 place c = let xs = c .before .before .before .before .before .before .args .numbers .now in
-    let r = place-small (tandemOf xs) (c .before .before .before .before .before .before .args .rates) (serverCount xs) (c .before .before .before .before .before .before .pre .servers .most) (ranged xs (c .before .before .before .before .before .before .pre)) (c .before .before .before .loop .f) (c .before .before .before .loop .sums) (c .before .before .before .loop .inv .2) (c .before .before .before .loop .inv .0) (omega (arith, c .before .before .before .before .flow-total .ensures .0)) _ (c .before .flow-at .ensures) in
+    let r = place-small xs (c .before .before .before .before .before .before .pre) (c .before .before .before .before .before .before .args .rates) (c .before .before .before .loop .f) (c .before .before .before .loop .sums) (c .before .before .before .loop .inv .2) (c .before .before .before .loop .inv .0) (omega (arith, c .before .before .before .before .flow-total .ensures .0)) _ (c .before .flow-at .ensures) in
     rw (c .place-of .ensures) r
 
 place-of-requires : tie.Need-place-of-requires Inv-loop μ-loop
 place-of-requires c κs = let xs = c .before .before .before .before .before .args .numbers .now in
-    let r = ranges (tandemOf xs) (c .before .before .before .before .before .args .rates) (serverCount xs) (c .before .before .before .before .before .pre .servers .most) (ranged xs (c .before .before .before .before .before .pre)) (c .before .before .loop .f) (c .before .before .loop .sums) (c .before .before .loop .inv .2) (c .before .before .loop .inv .0) (omega (arith, c .before .before .before .flow-total .ensures .0)) _ (c .flow-at .ensures) in
-    (r .begins, omega (arith, r .path, r .ends, c .before .before .before .before .before .pre .servers .most), omega (arith, r .ends, c .before .before .before .before .before .pre .servers .most))
+    let r = ranges xs (c .before .before .before .before .before .pre) (c .before .before .before .before .before .args .rates) (c .before .before .loop .f) (c .before .before .loop .sums) (c .before .before .loop .inv .2) (c .before .before .loop .inv .0) (omega (arith, c .before .before .before .flow-total .ensures .0)) _ (c .flow-at .ensures) in (
+      r .begins,
+      omega (arith, r .path, r .ends, c .before .before .before .before .before .pre .servers .most),
+      omega (arith, r .begins, r .path),
+      omega (arith, r .ends, c .before .before .before .before .before .pre .servers .most),
+    )
 
 mul-sums : tie.Need-mul-sums Inv-loop μ-loop
 mul-sums c = omega (arith, place c)
@@ -51,8 +54,8 @@ amount-of-requires c κs = search needs
 
 add-sums : tie.Need-add-sums Inv-loop μ-loop
 add-sums c = let xs = c .before .before .before .before .before .before .before .args .numbers .now in
-    let s = small-sum (tandemOf xs) (c .before .before .before .before .before .before .before .args .rates) (serverCount xs) (c .before .before .before .before .before .before .before .pre .servers .most) (ranged xs (c .before .before .before .before .before .before .before .pre)) (c .before .before .before .before .loop .f) (c .before .before .before .before .loop .sums) (c .before .before .before .before .loop .inv .2) (omega (arith, c .before .before .before .before .before .flow-total .ensures .0)) (omega (arith, c .before .before .before .before .before .flow-total .ensures .0, c .before .before .before .before .before .flow-total .ensures .1)) (c .before .place-of .result) (place (c .before)) in
-    let a = small-amount (tandemOf xs) (c .before .before .before .before .before .before .before .args .rates) (serverCount xs) (c .before .before .before .before .before .before .before .pre .servers .most) (ranged xs (c .before .before .before .before .before .before .before .pre)) (c .before .before .before .before .loop .f) (c .before .before .before .before .loop .sums) (c .before .before .before .before .loop .inv .2) (c .before .before .before .before .loop .inv .0) (omega (arith, c .before .before .before .before .before .flow-total .ensures .0)) _ (c .before .before .flow-at .ensures) in
+    let s = small-sum xs (c .before .before .before .before .before .before .before .pre) (c .before .before .before .before .before .before .before .args .rates) (c .before .before .before .before .loop .f) (c .before .before .before .before .loop .sums) (c .before .before .before .before .loop .inv .2) (omega (arith, c .before .before .before .before .before .flow-total .ensures .0)) (omega (arith, c .before .before .before .before .before .flow-total .ensures .0, c .before .before .before .before .before .flow-total .ensures .1)) (c .before .place-of .result) (place (c .before)) in
+    let a = small-amount xs (c .before .before .before .before .before .before .before .pre) (c .before .before .before .before .before .before .before .args .rates) (c .before .before .before .before .loop .f) (c .before .before .before .before .loop .sums) (c .before .before .before .before .loop .inv .2) (c .before .before .before .before .loop .inv .0) (omega (arith, c .before .before .before .before .before .flow-total .ensures .0)) _ (c .before .before .flow-at .ensures) in
     omega (arith, s, a, c .amount-of .ensures)
 
 mul-sums-2 : tie.Need-mul-sums-2 Inv-loop μ-loop
@@ -69,7 +72,7 @@ loop-less c = search needs
 
 loop-again : tie.Need-loop-again Inv-loop μ-loop
 loop-again c = let xs = c .before .before .before .before .before .before .before .args .numbers .now in
-    let r = turn-sums (tandemOf xs) (c .before .before .before .before .before .before .before .args .rates) (serverCount xs) (c .before .before .before .before .before .before .before .pre .servers .most) (ranged xs (c .before .before .before .before .before .before .before .pre)) (c .before .before .before .before .loop .f) (c .before .before .before .before .loop .sums) (c .before .before .before .before .loop .inv .2) (c .before .before .before .before .loop .inv .0) (omega (arith, c .before .before .before .before .before .flow-total .ensures .0)) _ (c .before .before .flow-at .ensures) in
+    let r = turn-sums xs (c .before .before .before .before .before .before .before .pre) (c .before .before .before .before .before .before .before .args .rates) (c .before .before .before .before .loop .f) (c .before .before .before .before .loop .sums) (c .before .before .before .before .loop .inv .2) (c .before .before .before .before .loop .inv .0) (omega (arith, c .before .before .before .before .before .flow-total .ensures .0)) _ (c .before .before .flow-at .ensures) in
     (omega arith, omega arith, rw (c .before .place-of .ensures, c .amount-of .ensures) r)
 
 returns : tie.Need-returns Inv-loop μ-loop
