@@ -17,3 +17,4 @@ pub mod OfSheetLaws
 pub mod SameLaws
 pub mod Unique
 pub mod Figures
+pub mod Parts

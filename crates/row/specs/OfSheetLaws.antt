@@ -9,7 +9,7 @@ use native.Mathlib.Omega.{arith}
 use lib.Dec.{ltb, eqb}
 use lib.ListN.{length, getD, length-append, List·getD-append, List·getD-eq-default}
 use lib.Seq.{getD-at}
-use borrow.Author.Tests.{ltb-false}
+use borrow.Author.Tests.{lt-ltb, ltb-false}
 use Rattle.sheet.specs.Valid.{Valid, Within, serverCount, serverRate, serverLatency, flowCount, flowFirst, flowLast, flowBurst, flowRate, watchedBurst, watchedRate, mode, grid}
 use Rattle.row.specs.declared.Server.{Server}
 use Rattle.row.specs.declared.Flow.{Flow}
@@ -137,3 +137,23 @@ passed-row xs v h =
     let row = tandemOf xs in
     let p = passed-tests (notNested row) (tooMany row (mode xs) (gridOf (serverCount xs) (grid xs))) (lowestCrowded row 1 (size row)) (length (groups row)) h in
     record { accepts = accepted xs v (p .0) (p .1); limited = limits xs v; few-points = p .2 }
+
+-- "then 3, 6, 7, 8": which refusal stands, in this order
+module _ (xs : List ℕ) where
+  pub crossing-first : notNested (tandemOf xs) ≡ true → checkOf xs ≡ Crossing
+  unfolding checkOf
+  crossing-first n = rw n
+
+  pub crowded-second : notNested (tandemOf xs) ≡ false → (j : ℕ) → lowestCrowded (tandemOf xs) 1 (size (tandemOf xs)) ≡ j → 0 < j → checkOf xs ≡ Crowded j
+  unfolding checkOf
+  crowded-second n j e h = rw (n, e, lt-ltb 0 j h)
+
+  pub points-third : notNested (tandemOf xs) ≡ false → lowestCrowded (tandemOf xs) 1 (size (tandemOf xs)) ≡ 0
+      → tooMany (tandemOf xs) (mode xs) (gridOf (serverCount xs) (grid xs)) ≡ true → checkOf xs ≡ Points (length (groups (tandemOf xs)))
+  unfolding checkOf
+  points-third n e t = rw (n, e, t)
+
+  pub passed-last : notNested (tandemOf xs) ≡ false → lowestCrowded (tandemOf xs) 1 (size (tandemOf xs)) ≡ 0
+      → tooMany (tandemOf xs) (mode xs) (gridOf (serverCount xs) (grid xs)) ≡ false → checkOf xs ≡ Passed
+  unfolding checkOf
+  passed-last n e t = rw (n, e, t)

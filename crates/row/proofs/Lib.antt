@@ -1,0 +1,6 @@
+pub mod Filling
+pub mod Checking
+pub mod Summing
+pub mod Placing
+pub mod Grouping
+pub mod Answers
