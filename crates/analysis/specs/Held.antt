@@ -1,11 +1,13 @@
 -- How the record `Analysed` of the code holds a verdict.
 -- Assumes nothing.
-use Prim.Native.Nat.{ℕ}
+use Prim.Native.Nat.{ℕ, _-_}
 use mathlib.Core.List.{List}
 use lib.ListN.{length, replicate}
 use Rattle.sheet.specs.Sheet.{Found, fail, these, sheetOf}
 use Rattle.row.specs.declared.Flow.{Flow}
+use Rattle.row.specs.declared.Row.{Row}
 use Rattle.row.specs.OfSheet.{padded, rowOf, checkOf}
+use Rattle.tree.specs.Grid as grid
 use Rattle.search.specs.Point.{noFlow}
 use Rattle.analysis.specs.declared.Judged.{Judged}
 use Rattle.analysis.specs.declared.Judged.the-variants.{Refused, Crossing, Crowded, Points, TooLarge, Bounded}
@@ -27,6 +29,19 @@ filled flows l =
       count = length (l .paths);
       groups = flows;
       waits = padded 32 0 (l .waits);
+    }
+
+-- the listing of a row, from what its search gives
+abbrev pub rowHeld : Row → grid.Found → Analysed
+rowHeld row found =
+    record {
+      judged = Bounded;
+      bound = found .best .delay;
+      start = found .start;
+      grid = row .grid;
+      count = row .count - 1;
+      groups = row .groups;
+      waits = padded 32 0 (found .best .waits);
     }
 
 abbrev pub heldWhere : Judged → Analysed → Analysed

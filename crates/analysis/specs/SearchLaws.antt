@@ -120,7 +120,7 @@ module _ (xs : List ℕ) (v : Valid xs) (passed : checkOf xs ≡ Passed) where
   unfolding rowOf
   row-grid = refl
 
-  count-held : rowOf xs .count - 1 ≡ length (groups (tandemOf xs))
+  pub count-held : rowOf xs .count - 1 ≡ length (groups (tandemOf xs))
   unfolding rowOf
   count-held = omega (arith, reads-count (tandemOf xs) (passed-as .accepts))
 
@@ -157,7 +157,7 @@ module _ (xs : List ℕ) (v : Valid xs) (passed : checkOf xs ≡ Passed) where
         watched = subst (λ (f : Flow). f .burst + f .rate < 2 ^ 40) (sym watched-held) (omega (arith, v .watched-burst .most, v .watched-rate .most));
       }
 
-  grid-held : (2 ≤ gridOf (serverCount xs) (grid xs)) × (gridOf (serverCount xs) (grid xs) ≤ 9)
+  pub grid-held : (2 ≤ gridOf (serverCount xs) (grid xs)) × (gridOf (serverCount xs) (grid xs) ≤ 9)
   unfolding gridOf
   grid-held = by (eqb (grid xs) 0) refl (v .grids)
     where
