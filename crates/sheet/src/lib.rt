@@ -244,7 +244,7 @@ fn numbers_of(bytes: &[u8], values: &mut [u32]) -> Outcome
     let mut i: usize = 0;
     loop {
         match step_on(
-            numbers::read_number(bytes, at),
+            reader::number_from(bytes, at),
             bytes.len(),
             at,
             rule_at(i, seen),

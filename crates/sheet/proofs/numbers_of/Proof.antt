@@ -24,7 +24,7 @@ abbrev μ-loop : tie.MeasureT-loop
 stepped : (c : tie.After-step-on Inv-loop μ-loop)
     → stepOn (numberAt (c .before .before .before .before .before .before .args .bytes .now) (c .before .before .before .loop .at)) (length (c .before .before .before .before .before .before .args .bytes .now)) (c .before .before .before .loop .at) (ruleAt (c .before .before .before .loop .i) (c .before .before .before .loop .seen))
     ≡ c .step-on .result
-stepped c = sym (c .step-on .ensures ∙ rw (c .before .rule-at .ensures, c .before .before .read-number .ensures))
+stepped c = sym (c .step-on .ensures ∙ rw (c .before .rule-at .ensures, c .before .before .number-from .ensures))
 
 below : (c : tie.After-x Inv-loop μ-loop) → c .before .before .before .before .before .loop .i < most
 below c = room _ _ (c .before .before .before .before .before .loop .inv .walking) (stepped (c .before .before) ∙ c .x .given .1)
@@ -32,8 +32,8 @@ below c = room _ _ (c .before .before .before .before .before .loop .inv .walkin
 loop-holds : tie.Need-loop-holds Inv-loop μ-loop
 loop-holds c = begin-reading _ _ (c .before .before .pre)
 
-read-number-requires : tie.Need-read-number-requires Inv-loop μ-loop
-read-number-requires c κs = search needs
+number-from-requires : tie.Need-number-from-requires Inv-loop μ-loop
+number-from-requires c κs = search needs
 
 rule-at-requires : tie.Need-rule-at-requires Inv-loop μ-loop
 rule-at-requires c κs = search needs
@@ -87,7 +87,7 @@ numbers-of-spec =
     Inv-loop
     μ-loop
     loop-holds
-    read-number-requires
+    number-from-requires
     rule-at-requires
     step-on-requires
     enum-known-x

@@ -1,0 +1,69 @@
+-- Laws of decimal numbers: the digits one by one, how many there are, that each is a digit, and that a number that was written is read back.
+-- Assumes nothing.
+use Prim.Native.Nat.{ℕ, zero, suc, _+_, _-_, _*_, _/_, _%_, _^_, _≤_, _<_}
+use mathlib.Core.Path.{_≡_, refl, sym, ap, _∙_}
+use mathlib.Core.Logic.{_⊎_, inl, inr, ⊎-elim}
+use mathlib.Core.List.{List, [], _∷_, _++_}
+use mathlib.Core.Bool.{Bool, true, false, cond}
+use native.Mathlib.Nat.{pow-suc, div-lt-iff-lt-mul}
+use native.Mathlib.Omega.{arith}
+use lib.ListN.{length, length-append}
+use lib.Dec.{ltb}
+use borrow.Author.Tests.{lt-ltb, le-ltb, ltb-true, ltb-false}
+use Rattle.text.specs.Decimal.{digits, decimal, valueAfter, valueOf}
+
+pub lt-or-ge : (a b : ℕ) → (a < b) ⊎ (b ≤ a)
+lt-or-ge a b = by (ltb a b) refl
+  where
+    by : (t : Bool) → ltb a b ≡ t → (a < b) ⊎ (b ≤ a)
+    by true e = inl (ltb-true a b e)
+    by false e = inr (ltb-false a b e)
+
+-- The digits of a number, one by one.
+
+pub digits-last : (n x : ℕ) → x < 10 → digits (suc n) x ≡ (48 + x) ∷ []
+digits-last n x h = rw (lt-ltb x 10 h)
+
+pub digits-more : (n x : ℕ) → 10 ≤ x → digits (suc n) x ≡ digits n (x / 10) ++ ((48 + x % 10) ∷ [])
+digits-more n x h = rw (le-ltb x 10 h)
+
+pub digits-some : (n x : ℕ) → 0 < length (digits (suc n) x)
+digits-some n x =
+    ⊎-elim (λ h. rw (digits-last n x h) (omega arith))
+    (λ h. rw (digits-more n x h) (omega (arith, length-append (digits n (x / 10)) ((48 + x % 10) ∷ []))))
+    (lt-or-ge x 10)
+
+pub decimal-some : (x : ℕ) → 0 < length (decimal x)
+unfolding decimal
+decimal-some x = digits-some 19 x
+
+digits-few : (n x : ℕ) → length (digits n x) ≤ n
+digits-few zero x = omega arith
+digits-few (suc n) x =
+    ⊎-elim (λ h. rw (digits-last n x h) (omega arith))
+    (λ h. rw (digits-more n x h) (omega (arith, length-append (digits n (x / 10)) ((48 + x % 10) ∷ []), digits-few n (x / 10))))
+    (lt-or-ge x 10)
+
+pub decimal-few : (x : ℕ) → length (decimal x) ≤ 20
+unfolding decimal
+decimal-few x = digits-few 20 x
+
+pub below-power : (n x : ℕ) → x < 10 ^ suc n → x / 10 < 10 ^ n
+below-power n x h = div-lt-iff-lt-mul {k = 10} (omega arith) .1 (rw pow-suc at h)
+
+-- What was written is read back.
+
+pub value-append : (v : ℕ) (a b : List ℕ) → valueAfter v (a ++ b) ≡ valueAfter (valueAfter v a) b
+value-append v [] b = refl
+value-append v (d ∷ a) b = value-append (10 * v + (d - 48)) a b
+
+digits-value : (n x : ℕ) → x < 10 ^ suc n → valueOf (digits (suc n) x) ≡ x
+digits-value zero x h = let l : x < 10 = omega arith in rw (digits-last 0 x l) (omega arith)
+digits-value (suc n) x h =
+    ⊎-elim (λ l. rw (digits-last (suc n) x l) (omega arith))
+    (λ g. rw (digits-more (suc n) x g, value-append, digits-value n (x / 10) (below-power (suc n) x h)) (omega arith))
+    (lt-or-ge x 10)
+
+pub decimal-value : (x : ℕ) → x < 18446744073709551616 → valueOf (decimal x) ≡ x
+unfolding decimal
+decimal-value x h = digits-value 19 x (omega arith)
