@@ -9,10 +9,11 @@ pub mod Amounts
 pub mod Fine
 pub mod Stands
 pub mod Searched
+pub mod Meaning
 pub mod TestLaws
 pub mod SumLaws
-pub mod PlanLaws
 pub mod FlowLaws
+pub mod PlanLaws
 pub mod NestedLaws
 pub mod StretchLaws
 pub mod SizeLaws
@@ -20,4 +21,5 @@ pub mod PruneLaws
 pub mod ParentLaws
 pub mod GridLaws
 pub mod SearchLaws
+pub mod MeaningLaws
 pub mod Figures
