@@ -12,7 +12,7 @@ pub mod Searched
 pub mod Meaning
 pub mod TestLaws
 pub mod SumLaws
-pub mod FlowLaws
+pub mod TandemLaws
 pub mod PlanLaws
 pub mod NestedLaws
 pub mod StretchLaws
@@ -23,3 +23,4 @@ pub mod GridLaws
 pub mod SearchLaws
 pub mod MeaningLaws
 pub mod Figures
+pub mod Met

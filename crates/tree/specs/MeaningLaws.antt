@@ -23,7 +23,8 @@ use Rattle.tree.specs.Tree.{tree}
 use Rattle.tree.specs.Bound.{bound, extraOf, answerAt}
 use Rattle.tree.specs.Fits.{Fits}
 use Rattle.tree.specs.Meaning.{behind, meaning}
-use Rattle.tree.specs.SumLaws.{total-at, total-or}
+use Rattle.tree.specs.SumLaws.{total-at}
+use Rattle.tree.specs.TandemLaws.{rates-or}
 use Rattle.tree.specs.PlanLaws.{stage-count}
 use Rattle.tree.specs.NestedLaws.{tree-fits}
 use Rattle.tree.specs.StretchLaws.{curve-rates}
@@ -32,10 +33,6 @@ module _ (row : Tandem) (extra : ℕ → ℕ) (room : (j : ℕ) → 0 < j → j 
   late : (g : Path) (c : Shape) (e : ℕ) → leastWait c (bursts row (on row g)) ≤ groupWait row g c e
   unfolding groupWait
   late g c e = omega arith
-
-  rates-or : (P G : ℕ → Bool) → ((f : ℕ) → P f ≡ true → G f ≡ false) → rates row (λ f. P f || G f) ≡ rates row P + rates row G
-  unfolding rates
-  rates-or P G h = total-or (length (row .flows)) P G (λ f. flow row f .rate) h
 
   -- one piece more, whose closed form d is the function g, behind a stretch that has a piece
   series-is : (p : Stretch) → 0 < span p → (0 < span p → valueAt (curve row extra p) ≡ meaning row extra p)
@@ -80,7 +77,7 @@ module _ (row : Tandem) (extra : ℕ → ℕ) (room : (j : ℕ) → 0 < j → j 
           → valueAt (remainder (curve row extra q) σ ρ θ) ≡ left (meaning row extra q) σ ρ θ
       taken long fits apart r =
           let c = curve row extra q in
-          let e = rates-or P (on row g) apart in
+          let e = rates-or row P (on row g) apart in
           let z = curve-rates row extra room (λ f. P f || on row g f) (i + span p) q (omega arith) fits in
           fun-ext (remainder-is-left c σ ρ θ (late g c (extra k)) (rates-weaken 1 (rates row (λ f. P f || on row g f)) (c .stages) (omega arith) z) (rates-weaken ρ (rates row (λ f. P f || on row g f)) (c .stages) (omega arith) z))
           ∙ ap (λ (f : ℕ → ℕ). left f σ ρ θ) (r (omega arith) fits long)
