@@ -17,14 +17,14 @@ use Rattle.tree.specs.Stretch.{groupWait, afterGroup, curve}
 use Rattle.tree.specs.Tree.{walk, top, tree}
 use Rattle.tree.specs.Bound.{bound, waits, answerAt, searched}
 
-abbrev srv : ℕ → ℕ → Server
+abbrev pub srv : ℕ → ℕ → Server
 srv R T = record { rate = R; latency = T }
 
-abbrev flow : ℕ → ℕ → ℕ → ℕ → Flow
+abbrev pub flow : ℕ → ℕ → ℕ → ℕ → Flow
 flow i l σ ρ = record { first = i; last = l; burst = σ; rate = ρ }
 
 -- servers, and flows with the watched one first
-abbrev row : List Server → List Flow → Tandem
+abbrev pub row : List Server → List Flow → Tandem
 row ss fs = record { servers = ss; flows = fs }
 
 -- a row of the table: what is searched, with which grid, and what document 01 says of it
@@ -41,7 +41,7 @@ figure t g s b ws = record { row = t; grid = g; start = s; bound = b; waits = ws
 abbrev row5 : Tandem
 row5 = row (srv 10 0 ∷ []) (flow 1 1 12 4 ∷ flow 1 1 10 6 ∷ [])
 
-abbrev row8 : Tandem
+abbrev pub row8 : Tandem
 row8 = row (srv 10 1 ∷ srv 10 1 ∷ srv 10 1 ∷ []) (flow 1 3 6 2 ∷ flow 1 1 4 2 ∷ flow 2 3 4 2 ∷ flow 3 3 4 2 ∷ [])
 
 -- P1 to P8: grid, start, bound, waits

@@ -9,10 +9,11 @@ pub mod Amounts
 pub mod Fine
 pub mod Stands
 pub mod Searched
+pub mod Meaning
 pub mod TestLaws
 pub mod SumLaws
+pub mod TandemLaws
 pub mod PlanLaws
-pub mod FlowLaws
 pub mod NestedLaws
 pub mod StretchLaws
 pub mod SizeLaws
@@ -22,4 +23,6 @@ pub mod Large
 pub mod LargeLaws
 pub mod GridLaws
 pub mod SearchLaws
+pub mod MeaningLaws
 pub mod Figures
+pub mod Met

@@ -17,9 +17,9 @@ use Rattle.row.specs.Accepted.{Lies, Sound, Accepted}
 use Rattle.tree.specs.Stretch.{Stretch, none, then-server, then-group, span}
 use Rattle.tree.specs.Tree.{Piece, single, whole, pick, walk, inside, top, tree}
 use Rattle.tree.specs.Fits.{Fits}
-use Rattle.tree.specs.TestLaws.{or-left, or-right, or-cases, both-true, true-both, not-true, same-test, decide}
+use Rattle.tree.specs.TestLaws.{or-left, or-right, or-cases, both-true, true-both, not-passed, same-test, decide}
 use Rattle.tree.specs.SumLaws.{any-at, any-found}
-use Rattle.tree.specs.FlowLaws.{on-is, is-on, crosses-is, is-crosses}
+use Rattle.tree.specs.TandemLaws.{on-is, is-on, crosses-is, is-crosses}
 
 walk-end : (n : ℕ) (t : ℕ → Piece) (p : Stretch) (j e : ℕ) → ltb e j ≡ true → walk (suc n) t p j e ≡ p
 unfolding walk
@@ -130,7 +130,7 @@ module _ (row : Tandem) (ok : Accepted row) where
                 let b = both-true (crosses row f i) (not (later row gs f)) e in
                 let d = false-of-not (later row gs f) (b .1) in
                 true-both (crosses row f j) (not (later row (x .after) f)) (node .level f j d hi hl ∙ b .0)
-                (not-false (later row (x .after) f) (not-true (later row (x .after) f) (λ y. true≢false (sym (x .down f y) ∙ d))))
+                (not-false (later row (x .after) f) (not-passed (later row (x .after) f) (λ y. true≢false (sym (x .down f y) ∙ d))))
             step (inr e) =
                 let o = on-is row g f e in
                 true-both (crosses row f j) (not (later row (x .after) f))
@@ -207,7 +207,7 @@ module _ (row : Tandem) (ok : Accepted row) where
             within = rw (flows, e) (b .fits)
 
             apart : (f : ℕ) → outside row gs i f ≡ true → on row g f ≡ false
-            apart f x = not-true (on row g f) (λ o. true≢false (sym (b .mine f o .0) ∙ false-of-not (later row gs f) (both-true (crosses row f i) (not (later row gs f)) x .1)))
+            apart f x = not-passed (on row g f) (λ o. true≢false (sym (b .mine f o .0) ∙ false-of-not (later row gs f) (both-true (crosses row f i) (not (later row gs f)) x .1)))
 
             stays : g .last ≤ l
             stays =
@@ -217,7 +217,7 @@ module _ (row : Tandem) (ok : Accepted row) where
 
         go : (j ≤ l) ⊎ (l < j) → Goal (walk (suc n) t p j l)
         go (inr k) = subst Goal (sym (walk-end n t p j l (lt-ltb l j k))) (h, omega arith)
-        go (inl k) = piece k (not-true (ltb l j) (λ z. let y = ltb-true l j z in omega arith)) (t j) refl (good j)
+        go (inl k) = piece k (not-passed (ltb l j) (λ z. let y = ltb-true l j z in omega arith)) (t j) refl (good j)
 
     walked : (n : ℕ) (t : ℕ → Piece) → ((j : ℕ) → Begins gs j (t j)) → Walked n t
     unfolding Walked Goal walk
@@ -246,7 +246,7 @@ module _ (row : Tandem) (ok : Accepted row) where
 
     -- a flow of g is in none of the groups after it
     strict : (f : ℕ) → on row g f ≡ true → later row gs f ≡ false
-    strict f e = not-true (later row gs f) (λ h. go (comes-after f h) (on-is row g f e))
+    strict f e = not-passed (later row gs f) (λ h. go (comes-after f h) (on-is row g f e))
       where
         go : (g .first < flow row f .first) ⊎ ((g .first ≡ flow row f .first) × (flow row f .last < g .last))
             → (0 < f) × (f < length (row .flows)) × (flow row f .first ≡ g .first) × (flow row f .last ≡ g .last) → ⊥
@@ -589,7 +589,7 @@ module _ (row : Tandem) (ok : Accepted row) where
           let z = eqb-true 0 f k in
           true-both (crosses row f 1) (not (later row (groups row) f))
           (subst (λ (x : ℕ). crosses row x 1 ≡ true) z (is-crosses row 0 1 (ok .sound .some) (omega (arith, ok .sound .enters)) (omega (arith, ok .sound .leaves, ok .sound .long))))
-          (not-false (later row (groups row) f) (not-true (later row (groups row) f) (λ e. let x = later-real (groups row) f e in omega (arith, x .0))))
+          (not-false (later row (groups row) f) (not-passed (later row (groups row) f) (λ e. let x = later-real (groups row) f e in omega (arith, x .0))))
 
   -- "The watched flow crosses all of them": the tree is the stretch from the first server to the last
   tree-whole : tree row ≡ inside row (top row 0 (groups row)) (path 1 (size row))
@@ -620,7 +620,7 @@ module _ (row : Tandem) (ok : Accepted row) where
       let o = on-is row g f e in
       true-both (crosses row f (g .first)) (not (later row gs f))
       (is-crosses row f (g .first) (o .1) (omega (arith, o .2)) (omega (arith, o .3, order .0 .2)))
-      (not-false (later row gs f) (not-true (later row gs f) (λ h. go o (order .1 f h))))
+      (not-false (later row gs f) (not-passed (later row gs f) (λ h. go o (order .1 f h))))
     where
       go : (0 < f) × (f < length (row .flows)) × (flow row f .first ≡ g .first) × (flow row f .last ≡ g .last)
           → (g .first < flow row f .first) ⊎ ((g .first ≡ flow row f .first) × (flow row f .last < g .last)) → ⊥

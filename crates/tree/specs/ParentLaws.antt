@@ -20,13 +20,13 @@ use Rattle.tree.specs.Tree.{tree}
 use Rattle.tree.specs.Fits.{Fits}
 use Rattle.tree.specs.Amounts.{weights}
 use Rattle.tree.specs.Stands.{In, Child, Alone, times, Contains, Parent, Outermost, Pieces}
-use Rattle.tree.specs.TestLaws.{or-left, or-right, or-cases, decide, not-true}
+use Rattle.tree.specs.TestLaws.{or-left, or-right, or-cases, decide, not-passed}
 use Rattle.tree.specs.SumLaws.{total-at, total-mono}
-use Rattle.tree.specs.FlowLaws.{on-is, is-on, crosses-is, is-crosses}
+use Rattle.tree.specs.TandemLaws.{on-is, is-on, crosses-is, is-crosses}
 use Rattle.tree.specs.NestedLaws.{order-groups, tree-fits}
 use Rattle.tree.specs.StretchLaws.{spans}
 use Rattle.tree.specs.SizeLaws.{weights-some}
-use Rattle.tree.specs.PruneLaws.{found, in-tree, order-at, stands, total-one}
+use Rattle.tree.specs.PruneLaws.{found, in-tree, order-at, stands, total-only}
 
 -- what is known of a group that stands in a stretch from server i on that fits: its own stretch fits too, and is the whole of its path
 pub record Standing (row : Tandem) (P : ℕ → Bool) (i n : ℕ) (g : Path) (q : Stretch) : Type 0 where
@@ -241,7 +241,7 @@ module _ (row : Tandem) (ok : Accepted row) where
         in-times k (s .0) (s .1) (tree row) (s .2),
         times-le row k w (tree row) hw (λ g q i. subst (λ (x : Path). on row x w ≡ true) (in-tree row k g q i .1) (o .1)),
         weights-some row (λ f. weigh (eqb w f) 1) watched 1 (tree row) (fit .0),
-        total-one (length (row .flows)) w (λ f. 1) .0,
+        total-only (length (row .flows)) w (λ f. 1) .0,
       )
 
   -- the pieces of each node, and of the root

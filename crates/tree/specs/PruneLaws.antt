@@ -6,6 +6,7 @@ use mathlib.Core.Bool.{Bool, true, false, _||_, true≢false}
 use mathlib.Core.Logic.{_⊎_, inl, inr}
 use mathlib.Core.List.{List, [], _∷_, _++_, map}
 use Prim.Native.Nat.{ℕ, zero, suc, _+_, _-_, _≤_, _<_}
+use native.Mathlib.Nat.{add-zero, add-suc}
 use native.Mathlib.Omega.{arith}
 use lib.Dec.{ltb, eqb}
 use lib.ListN.{length, getD, drop}
@@ -25,9 +26,9 @@ use Rattle.tree.specs.Bound.{bound, waits, extraOf, answerAt}
 use Rattle.tree.specs.Fits.{Fits}
 use Rattle.tree.specs.Amounts.{latencies, extras, sumOf}
 use Rattle.tree.specs.Stands.{In, numbered}
-use Rattle.tree.specs.TestLaws.{or-left, or-right, or-cases, decide, not-true}
-use Rattle.tree.specs.SumLaws.{total-mono, total-add, total-same, total-zero, total-front, total-split}
-use Rattle.tree.specs.FlowLaws.{on-is, is-crosses}
+use Rattle.tree.specs.TestLaws.{or-left, or-right, or-cases, decide, not-passed}
+use Rattle.tree.specs.SumLaws.{total-mono, total-add, total-same, total-zero, total-front}
+use Rattle.tree.specs.TandemLaws.{on-is, is-crosses}
 use Rattle.tree.specs.NestedLaws.{Order, later, order-groups, tree-fits}
 use Rattle.tree.specs.StretchLaws.{offset-ge}
 
@@ -66,11 +67,21 @@ in-numbered k g q (then-group p k′ g′ q′) (inl (inr h)) =
     or-left (numbered p k || numbered q′ k) (eqb k′ k) (or-right (numbered p k) (numbered q′ k) (in-numbered k g q q′ h))
 in-numbered k g q (then-group p k′ g′ q′) (inr h) = or-right (numbered p k || numbered q′ k) (eqb k′ k) (eq-eqb k′ k (sym (h .0)))
 
--- a sum over one number only
-pub total-one : (n y : ℕ) (r : ℕ → ℕ) → (total n (λ k. weigh (eqb y k) (r k)) ≤ r y) × (n ≤ y → total n (λ k. weigh (eqb y k) (r k)) ≡ 0)
+-- a sum over the first a numbers, and b more
+total-split : (a b : ℕ) (g : ℕ → ℕ) → total (a + b) g ≡ total a g + total b (λ m. g (a + m))
 unfolding total
-total-one zero y r = (omega arith, λ h. refl)
-total-one (suc n) y r = go (le-or-lt n y) (le-or-lt y n) (total-one n y r)
+total-split a zero g =
+    let e : total (a + zero) g ≡ total a g = ap (λ (x : ℕ). total x g) (add-zero a) in
+    omega (arith, e)
+total-split a (suc b) g =
+    let e : total (a + suc b) g ≡ total (suc (a + b)) g = ap (λ (x : ℕ). total x g) (add-suc a b) in
+    omega (arith, e, total-split a b g)
+
+-- a sum over one number only
+pub total-only : (n y : ℕ) (r : ℕ → ℕ) → (total n (λ k. weigh (eqb y k) (r k)) ≤ r y) × (n ≤ y → total n (λ k. weigh (eqb y k) (r k)) ≡ 0)
+unfolding total
+total-only zero y r = (omega arith, λ h. refl)
+total-only (suc n) y r = go (le-or-lt n y) (le-or-lt y n) (total-only n y r)
   where
     go : (n ≤ y) ⊎ (y < n) → (y ≤ n) ⊎ (n < y) → (total n (λ k. weigh (eqb y k) (r k)) ≤ r y) × (n ≤ y → total n (λ k. weigh (eqb y k) (r k)) ≡ 0)
         → (total n (λ k. weigh (eqb y k) (r k)) + weigh (eqb y n) (r n) ≤ r y) × (suc n ≤ y → total n (λ k. weigh (eqb y k) (r k)) + weigh (eqb y n) (r n) ≡ 0)
@@ -93,7 +104,7 @@ numbered-le n extra (then-group p k′ g q) =
       total-add n (λ k. weigh (numbered p k) (extra k)) (λ k. weigh (numbered q k) (extra k)),
       numbered-le n extra p,
       numbered-le n extra q,
-      total-one n k′ extra .0,
+      total-only n k′ extra .0,
     )
   where
     each : (a b c : Bool) (x : ℕ) → weigh ((a || b) || c) x ≤ weigh a x + weigh b x + weigh c x
@@ -286,7 +297,7 @@ module _ (row : Tandem) (ok : Accepted row) where
       crossing = is-crosses row w (1 + (g .first - 1)) (o .1) (omega (arith, o .2, v .0)) (omega (arith, o .2, v .0, v .1))
 
       unwatched : watched w ≡ false
-      unwatched = not-true (watched w) (λ x. absurd (omega (arith, eqb-true 0 w x, o .0)))
+      unwatched = not-passed (watched w) (λ x. absurd (omega (arith, eqb-true 0 w x, o .0)))
 
       finish : (k : ℕ) × (g′ : Path) × (q : Stretch) × (on row g′ w ≡ true) × In k g′ q (tree row)
           → (g : Path) × (q : Stretch) × In m g q (tree row) × (getD (waits row extra 0 (groups row)) m 0 ≡ groupWait row g (curve row extra q) (extra m))

@@ -28,9 +28,9 @@ use Rattle.tree.specs.Planned.{nodesOf, treeNodes}
 use Rattle.tree.specs.Fits.{Fits}
 use Rattle.tree.specs.Amounts.{latencies, weights, extras, count}
 use Rattle.tree.specs.Fine.{Fine, AllFine}
-use Rattle.tree.specs.TestLaws.{or-cases, both-true, not-true}
+use Rattle.tree.specs.TestLaws.{or-cases, both-true, not-passed}
 use Rattle.tree.specs.SumLaws.{total-at, total-or, total-mono, total-subset}
-use Rattle.tree.specs.FlowLaws.{on-is, is-crosses}
+use Rattle.tree.specs.TandemLaws.{on-is, is-crosses}
 use Rattle.tree.specs.PlanLaws.{plan-is-tree, stage-count}
 use Rattle.tree.specs.NestedLaws.{Order, Outer, outside, order-groups, outer-all, outer-tail, tree-fits, node-fits, own-outside}
 use Rattle.tree.specs.StretchLaws.{curve-rates, wait-most, delay-most, offset-le, latencies-le, extras-le, Small, stages-small}
@@ -89,17 +89,17 @@ module _ (row : Tandem) where
       D = begins-in row P i (span p + span q)
 
       not-p : (f : ℕ) → on row g f ≡ true → P f ≡ false
-      not-p f e = not-true (P f) (λ k. true≢false (sym e ∙ h .3 f k))
+      not-p f e = not-passed (P f) (λ k. true≢false (sym e ∙ h .3 f k))
 
       not-or : (a b : Bool) → (a || b) ≡ false → (a ≡ false) × (b ≡ false)
       not-or true b e = absurd (true≢false e)
       not-or false b e = (refl, e)
 
       first : (f : ℕ) → A f ≡ true → on row g f ≡ false
-      first f e = not-true (on row g f) (λ k. let x = in-is P i (span p) f e in let o = on-is row g f k in omega (arith, x .1, o .2, h .4))
+      first f e = not-passed (on row g f) (λ k. let x = in-is P i (span p) f e in let o = on-is row g f k in omega (arith, x .1, o .2, h .4))
 
       second : (f : ℕ) → (A f || on row g f) ≡ true → C f ≡ false
-      second f e = not-true (C f) (λ k. go (in-is (λ f. P f || on row g f) (i + span p) (span q) f k) (or-cases (A f) (on row g f) e))
+      second f e = not-passed (C f) (λ k. go (in-is (λ f. P f || on row g f) (i + span p) (span q) f k) (or-cases (A f) (on row g f) e))
         where
           go : (i + span p ≤ flow row f .first) × (flow row f .first < i + span p + span q) × ((P f || on row g f) ≡ false) → (A f ≡ true) ⊎ (on row g f ≡ true) → ⊥
           go x (inl a) = omega (arith, x .0, in-is P i (span p) f a .1)
@@ -122,7 +122,7 @@ module _ (row : Tandem) where
   weights-all w p some h =
       let n = length (row .flows) in
       let G = begins-in row watched 1 (span p) in
-      let o = total-or n watched G w (λ f e. not-true (G f) (λ k. true≢false (sym e ∙ in-is watched 1 (span p) f k .2))) in
+      let o = total-or n watched G w (λ f e. not-passed (G f) (λ k. true≢false (sym e ∙ in-is watched 1 (span p) f k .2))) in
       let s = total-subset n (λ f. watched f || G f) (λ f. true) w (λ f e. refl) in
       let z : weigh (eqb 0 0) (w 0) ≤ total n (λ f. weigh (watched f) (w f)) = total-at n 0 (λ f. weigh (watched f) (w f)) some in
       let y : w 0 ≤ total n (λ f. weigh (watched f) (w f)) = z in

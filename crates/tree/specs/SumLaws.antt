@@ -4,7 +4,6 @@ use mathlib.Core.Path.{_≡_, refl, sym, ap, _∙_}
 use mathlib.Core.Bool.{Bool, true, false, _||_, true≢false, false≢true}
 use mathlib.Core.Logic.{_⊎_, inl, inr}
 use Prim.Native.Nat.{ℕ, zero, suc, _+_, _*_, _≤_, _<_}
-use native.Mathlib.Nat.{add-zero, add-suc}
 use native.Mathlib.Omega.{arith}
 use Rattle.curves.specs.SlotsLaws.{le-or-lt}
 use Rattle.row.specs.Sums.{weigh, total, any}
@@ -81,16 +80,6 @@ unfolding total
 total-front zero g = omega arith
 total-front (suc n) g = omega (arith, total-front n g)
 
--- the first a, and b more
-pub total-split : (a b : ℕ) (g : ℕ → ℕ) → total (a + b) g ≡ total a g + total b (λ m. g (a + m))
-unfolding total
-total-split a zero g =
-    let e : total (a + zero) g ≡ total a g = ap (λ (x : ℕ). total x g) (add-zero a) in
-    omega (arith, e)
-total-split a (suc b) g =
-    let e : total (a + suc b) g ≡ total (suc (a + b)) g = ap (λ (x : ℕ). total x g) (add-suc a b) in
-    omega (arith, e, total-split a b g)
-
 pub any-at : (n f : ℕ) (p : ℕ → Bool) → f < n → p f ≡ true → any n p ≡ true
 unfolding any
 any-at zero f p h e = absurd (omega arith)
@@ -108,3 +97,14 @@ any-found (suc n) p h = go (or-cases (any n p) (p n) h) (any-found n p)
     go : (any n p ≡ true) ⊎ (p n ≡ true) → (any n p ≡ true → (f : ℕ) × (f < n) × (p f ≡ true)) → (f : ℕ) × (f < suc n) × (p f ≡ true)
     go (inl k) r = let x = r k in (x .0, omega (arith, x .1), x .2)
     go (inr k) r = (n, omega arith, k)
+
+pub none-of : (n : ℕ) (p : ℕ → Bool) → any n p ≡ false → (f : ℕ) → f < n → p f ≡ false
+unfolding any
+none-of zero p h f k = absurd (omega arith)
+none-of (suc n) p h f k = go (any n p) (p n) refl refl h (le-or-lt n f) (none-of n p)
+  where
+    go : (a b : Bool) → any n p ≡ a → p n ≡ b → (any n p || p n) ≡ false → (n ≤ f) ⊎ (f < n) → (any n p ≡ false → (f : ℕ) → f < n → p f ≡ false) → p f ≡ false
+    go true b x y z l r = absurd (true≢false (sym (or-left (any n p) (p n) x) ∙ z))
+    go false true x y z l r = absurd (true≢false (sym (or-right (any n p) (p n) y) ∙ z))
+    go false false x y z (inl l) r = let e : f ≡ n = omega arith in rw e y
+    go false false x y z (inr l) r = r x f l

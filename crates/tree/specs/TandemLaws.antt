@@ -1,13 +1,14 @@
 -- What the tests of a row's flows say: a flow is on a path, a flow crosses a server.
 -- Assumes nothing.
-use Prim.Native.Nat.{ℕ, _≤_, _<_}
+use Prim.Native.Nat.{ℕ, _+_, _≤_, _<_}
 use mathlib.Core.Path.{_≡_}
-use mathlib.Core.Bool.{Bool, true, false, _&&_}
+use mathlib.Core.Bool.{Bool, true, false, _||_, _&&_}
 use lib.Dec.{leb, ltb, eqb}
 use lib.ListN.{length}
 use borrow.Author.Tests.{ltb-true, leb-true, eqb-true, lt-ltb, le-leb, eq-eqb}
-use Rattle.row.specs.Tandem.{Tandem, Path, flow, crosses, on}
+use Rattle.row.specs.Tandem.{Tandem, Path, flow, crosses, on, rates}
 use Rattle.tree.specs.TestLaws.{both-true}
+use Rattle.tree.specs.SumLaws.{total-or}
 
 pub on-is : (row : Tandem) (g : Path) (f : ℕ) → on row g f ≡ true
     → (0 < f) × (f < length (row .flows)) × (flow row f .first ≡ g .first) × (flow row f .last ≡ g .last)
@@ -43,3 +44,8 @@ crosses-is row f j h =
 pub is-crosses : (row : Tandem) (f j : ℕ) → f < length (row .flows) → flow row f .first ≤ j → j ≤ flow row f .last → crosses row f j ≡ true
 unfolding crosses
 is-crosses row f j a b c = rw (lt-ltb f (length (row .flows)) a, le-leb (flow row f .first) j b, le-leb j (flow row f .last) c)
+
+-- the rates of two sets that share no flow add up
+pub rates-or : (row : Tandem) (P G : ℕ → Bool) → ((f : ℕ) → P f ≡ true → G f ≡ false) → rates row (λ f. P f || G f) ≡ rates row P + rates row G
+unfolding rates
+rates-or row P G h = total-or (length (row .flows)) P G (λ f. flow row f .rate) h
