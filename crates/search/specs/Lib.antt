@@ -1,5 +1,5 @@
 pub mod Point
-pub mod Searchable
 pub mod Steps
+pub mod Searchable
 pub mod GridLaws
 pub mod Unique
