@@ -2,4 +2,5 @@ pub mod Point
 pub mod Steps
 pub mod Searchable
 pub mod GridLaws
+pub mod SearchLaws
 pub mod Unique
