@@ -11,16 +11,10 @@ use Rattle.row.specs.declared.Row.{Row}
 use Rattle.tree.specs.Grid.{Answer, flat, pointsFrom, bestOf}
 use Rattle.search.specs.declared.Point.{Point}
 use Rattle.search.specs.declared.Steps.{Steps}
-use Rattle.search.specs.Point.{serversOf, flowsOf, answerOf, pointOf, answerHeld}
+use Rattle.search.specs.Point.{serversOf, flowsOf, extrasOf, pointOf, heldAt}
+use Rattle.search.specs.Steps.{valuesOf}
 use Rattle.search.specs.Searchable.{Each, total, AllFine, Good, Ready}
 use Rattle.search.specs.GridLaws.{best-skip, best-more, each-both, each-flat, points-total, total-append}
-
--- the answer at a point, as the code holds it
-abbrev pub heldAt : Row → List ℕ → Answer
-heldAt row es = answerHeld (pointOf (answerOf (serversOf row) (flowsOf row) es))
-
-abbrev pub valuesOf : Steps → List ℕ
-valuesOf steps = take (steps .count) (steps .values)
 
 -- the points with e behind the first k extras
 abbrev pub block : Row → Steps → List ℕ → ℕ → ℕ → List (List ℕ)
@@ -32,7 +26,7 @@ spread row steps extra k p = let e : row .count - 1 - k ≡ suc (row .count - 1 
 
 module _ (row : Row) (steps : Steps) (extra : List ℕ) (k least : ℕ) (best : Point) (r : Ready row steps extra k least best) where
   -- every extra is chosen: one point
-  pub point-fine : k + 1 ≡ row .count → AllFine (serversOf row) (flowsOf row) (0 ∷ take (row .count - 1) extra)
+  pub point-fine : k + 1 ≡ row .count → AllFine (serversOf row) (flowsOf row) (0 ∷ extrasOf row extra)
   point-fine e =
       let z : row .count - 1 - k ≡ 0 = omega arith in
       let n : row .count - 1 ≡ k = omega arith in

@@ -12,12 +12,11 @@ use Rattle.tree.specs.Grid.{Answer, pointsFrom, bestOf, foundOf}
 use Rattle.search.specs.declared.Point.{Point}
 use Rattle.search.specs.declared.Steps.{Steps}
 use Rattle.search.specs.declared.Found.{Found}
-use Rattle.search.specs.Point.{serversOf, flowsOf, answerOf, pointOf, answerHeld, searched}
+use Rattle.search.specs.Point.{serversOf, flowsOf, answerAt, extrasOf, pointOf, answerHeld, heldAt, searched}
 use Rattle.search.specs.Searchable.{Each, latencies, AllFine, Good, Searchable, Ready, foundIn}
-use Rattle.search.specs.Steps.{once, stepAt}
+use Rattle.search.specs.Steps.{once, stepAt, valuesOf}
 use Rattle.search.specs.GridLaws.{best-steps, best-held, each-weaken, each-at, points-each}
 use Rattle.search.proofs.Stepping.{steps-le}
-use Rattle.search.proofs.Scanning.{heldAt, valuesOf}
 
 take-zeros : (n m : ℕ) → n ≤ m → take {A = ℕ} n (replicate m 0) ≡ replicate n 0
 take-zeros zero m p = refl
@@ -30,22 +29,22 @@ zeros-low b (suc n) = (omega arith, zeros-low b n)
 
 -- the answer at the first point
 abbrev pub firstOf : Row → Answer
-firstOf row = answerOf (serversOf row) (flowsOf row) (replicate (row .count - 1) 0)
+firstOf row = answerAt row (replicate (row .count - 1) 0)
 
 module _ (row : Row) (h : Searchable row) where
-  zeros-are : take {A = ℕ} (row .count - 1) (replicate 32 0) ≡ replicate (row .count - 1) 0
+  zeros-are : extrasOf row (replicate 32 0) ≡ replicate (row .count - 1) 0
   zeros-are = take-zeros (row .count - 1) 32 (omega (arith, h .shaped .few))
 
   first-good : Good row (replicate (row .count - 1) 0)
   first-good = h .good (replicate (row .count - 1) 0) (length-replicate (row .count - 1) 0) (zeros-low (firstOf row .delay) (row .count - 1))
 
-  pub first-fine : AllFine (serversOf row) (flowsOf row) (0 ∷ take (row .count - 1) (replicate 32 0))
+  pub first-fine : AllFine (serversOf row) (flowsOf row) (0 ∷ extrasOf row (replicate 32 0))
   first-fine = rw zeros-are (first-good .fine)
 
   pub latencies-small : latencies (serversOf row) < 2 ^ 62
   latencies-small = omega (arith, first-good .above, h .near)
 
-  module _ (p : Point) (f : p ≡ pointOf (answerOf (serversOf row) (flowsOf row) (take (row .count - 1) (replicate 32 0)))) where
+  module _ (p : Point) (f : p ≡ pointOf (answerAt row (extrasOf row (replicate 32 0)))) where
     pub first-is : p ≡ pointOf (firstOf row)
     first-is = rw zeros-are at f
 
@@ -84,7 +83,7 @@ module _ (row : Row) (h : Searchable row) where
       unfolding foundIn foundOf pointOf
       search-is b m e =
           let z : row .count - 1 - 0 ≡ row .count - 1 = omega arith in
-          let at = answerOf (serversOf row) (flowsOf row) in
+          let at = answerAt row in
           let first = firstOf row in
           let x : answerHeld b ≡ answerHeld (pointOf (bestOf at first (pointsFrom (once (stepAt (first .delay) (row .grid)) (row .grid)) [] (row .count - 1)))) =
           (rw (z, s, first-is) at e) ∙ best-held at first (pointsFrom (once (stepAt (first .delay) (row .grid)) (row .grid)) [] (row .count - 1)) in

@@ -1,5 +1,6 @@
 pub mod Point
-pub mod Searchable
 pub mod Steps
+pub mod Searchable
 pub mod GridLaws
+pub mod SearchLaws
 pub mod Unique

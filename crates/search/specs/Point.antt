@@ -35,6 +35,14 @@ answerIn (g ∷ gs) (n ∷ ns) = record { delay = delay (n .curve) (g .burst) (g
 unfoldable pub answerOf : List Server → List Flow → List ℕ → Answer
 answerOf ss gs es = answerIn gs (plan ss gs (0 ∷ es))
 
+-- the same of a row
+abbrev pub answerAt : Row → List ℕ → Answer
+answerAt row es = answerOf (serversOf row) (flowsOf row) es
+
+-- the point that an array holds: an extra for each group
+abbrev pub extrasOf : Row → List ℕ → List ℕ
+extrasOf row extra = take (row .count - 1) extra
+
 -- an answer as the code holds it: behind the groups' waits stand zeros
 unfoldable pub pointOf : Answer → Point
 pointOf a = record { delay = a .delay; waits = padded 32 0 (a .waits) }
@@ -43,6 +51,9 @@ pointOf a = record { delay = a .delay; waits = padded 32 0 (a .waits) }
 abbrev pub answerHeld : Point → Answer
 answerHeld p = record { delay = p .delay; waits = p .waits }
 
+abbrev pub heldAt : Row → List ℕ → Answer
+heldAt row es = answerHeld (pointOf (answerAt row es))
+
 -- what the search of a row gives
 abbrev pub searched : Row → Found
-searched row = foundOf (answerOf (serversOf row) (flowsOf row)) (row .count - 1) (row .mode) (row .grid)
+searched row = foundOf (answerAt row) (row .count - 1) (row .mode) (row .grid)

@@ -16,7 +16,8 @@ use Rattle.tree.specs.Grid.{Answer, pointsFrom}
 use Rattle.search.specs.declared.Point.{Point}
 use Rattle.search.specs.declared.Steps.{Steps}
 use Rattle.search.specs.declared.Found.{Found}
-use Rattle.search.specs.Point.{serversOf, flowsOf, noFlow, answerOf}
+use Rattle.search.specs.Point.{serversOf, flowsOf, noFlow, answerAt}
+use Rattle.search.specs.Steps.{valuesOf}
 
 -- what a search gives, as the code holds it: behind the groups' waits stand zeros
 unfoldable pub foundIn : ℕ → Answer → Found
@@ -67,16 +68,16 @@ latencies ss = total (map (λ (s : Server). s .latency) ss)
 -- a point in range: no delay is below the latencies and the extras together
 pub record Good (row : Row) (es : List ℕ) : Type 0 where
   pub fine : AllFine (serversOf row) (flowsOf row) (0 ∷ es)
-  pub above : latencies (serversOf row) + total es ≤ answerOf (serversOf row) (flowsOf row) es .delay
+  pub above : latencies (serversOf row) + total es ≤ answerAt row es .delay
 
 -- a row that can be searched: every point with extras up to `start` is in range
 pub record Searchable (row : Row) : Type 0 where
   pub shaped : Shaped row
   pub coarse : 2 ≤ row .grid
   pub dense : row .grid ≤ 9
-  pub near : answerOf (serversOf row) (flowsOf row) (replicate (row .count - 1) 0) .delay < 2 ^ 32
+  pub near : answerAt row (replicate (row .count - 1) 0) .delay < 2 ^ 32
   pub good : (es : List ℕ) → length es ≡ row .count - 1
-      → Each (λ e. e ≤ answerOf (serversOf row) (flowsOf row) (replicate (row .count - 1) 0) .delay) es → Good row es
+      → Each (λ e. e ≤ answerAt row (replicate (row .count - 1) 0) .delay) es → Good row es
 
 -- what a scan asks that has chosen the first k extras: `least` is at most every delay that is still to come
 pub record Ready (row : Row) (steps : Steps) (extra : List ℕ) (k least : ℕ) (best : Point) : Type 0 where
@@ -87,4 +88,4 @@ pub record Ready (row : Row) (steps : Steps) (extra : List ℕ) (k least : ℕ) 
   pub small : least < 2 ^ 62
   pub bound : best .delay < 2 ^ 62
   pub low : (i : ℕ) → i < steps .count → getD (steps .values) i 0 < 2 ^ 62
-  pub good : Each (Good row) (pointsFrom (take (steps .count) (steps .values)) (take k extra) (row .count - 1 - k))
+  pub good : Each (Good row) (pointsFrom (valuesOf steps) (take k extra) (row .count - 1 - k))

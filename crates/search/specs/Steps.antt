@@ -4,6 +4,8 @@ use mathlib.Core.Bool.{Bool, true, false}
 use mathlib.Core.List.{List, [], _∷_, _++_}
 use Prim.Native.Nat.{ℕ, zero, suc, _-_, _*_, _/_}
 use lib.Dec.{eqb}
+use lib.ListN.{take}
+use Rattle.search.specs.declared.Steps.{Steps}
 
 -- e behind l, unless it is equal to what stands there
 abbrev pub keep : Bool → List ℕ → ℕ → List ℕ
@@ -19,3 +21,7 @@ once f (suc (suc n)) = keep (eqb (f n) (f (suc n))) (once f (suc n)) (f (suc n))
 -- step i of a grid: "floor(i·start / (g − 1))"
 unfoldable pub stepAt : ℕ → ℕ → ℕ → ℕ
 stepAt start g i = i * start / (g - 1)
+
+-- the steps that the code holds
+abbrev pub valuesOf : Steps → List ℕ
+valuesOf steps = take (steps .count) (steps .values)

@@ -3,9 +3,9 @@ ghost use mathlib.Core.Path.{_≡_};
 ghost use Prim.Native.Nat.{_-_, _≤_, _<_, _^_};
 ghost use mathlib.Core.List.{_∷_};
 ghost use lib.ListN.{length, take};
-ghost use Rattle.search.specs.Point.{serversOf, flowsOf, answerOf, pointOf, answerHeld, searched};
+ghost use Rattle.search.specs.Point.{serversOf, flowsOf, answerAt, extrasOf, pointOf, answerHeld, heldAt, searched};
 ghost use Rattle.search.specs.Searchable.{AllFine, Shaped, Searchable, Ready, latencies, foundIn};
-ghost use Rattle.search.specs.Steps.{once, stepAt};
+ghost use Rattle.search.specs.Steps.{once, stepAt, valuesOf};
 ghost use Rattle.tree.specs.Grid.{pointsFrom, better, bestOf};
 use curves::Curve;
 use row::Row;
@@ -32,8 +32,8 @@ pub struct Found {
 // The nodes from the last group to the watched flow, each from those behind it. Of the groups behind node k, tops[j] is the outermost
 // that begins at server j, 0 where there is none, and lefts holds what each leaves.
 fn evaluate(row: Row, extra: [u64; 32]) -> Point
-    requires { ⌜ Shaped row × AllFine (serversOf row) (flowsOf row) (0 ∷ take (row .count - 1) extra) ⌝ }
-    ensures { λ r. ⌜ r ≡ pointOf (answerOf (serversOf row) (flowsOf row) (take (row .count - 1) extra)) ⌝ }
+    requires { ⌜ Shaped row × AllFine (serversOf row) (flowsOf row) (0 ∷ extrasOf row extra) ⌝ }
+    ensures { λ r. ⌜ r ≡ pointOf (answerAt row (extrasOf row extra)) ⌝ }
 {
     let none = Curve::none();
     let mut lefts = [none; 32];
@@ -59,13 +59,13 @@ fn evaluate(row: Row, extra: [u64; 32]) -> Point
             }
         }
         if k == 0 {
-            let delay = c.delay(g.burst, g.rate);
             return Point {
-                delay: delay,
+                delay: c.delay(g.burst, g.rate),
                 waits: waits,
             };
         }
-        let wait = c.least_wait(g.burst) + extra[k - 1];
+        let least = c.least_wait(g.burst);
+        let wait = least + extra[k - 1];
         lefts[k] = c.remainder(g.burst, g.rate, wait);
         waits[k - 1] = wait;
         tops[first] = k;
@@ -74,8 +74,8 @@ fn evaluate(row: Row, extra: [u64; 32]) -> Point
 
 // The better of `best` and the point with these extras; on a tie, `best`.
 fn try_point(row: Row, extra: [u64; 32], best: Point) -> Point
-    requires { ⌜ Shaped row × AllFine (serversOf row) (flowsOf row) (0 ∷ take (row .count - 1) extra) ⌝ }
-    ensures { λ r. ⌜ answerHeld r ≡ better (answerHeld best) (answerHeld (pointOf (answerOf (serversOf row) (flowsOf row) (take (row .count - 1) extra)))) ⌝ }
+    requires { ⌜ Shaped row × AllFine (serversOf row) (flowsOf row) (0 ∷ extrasOf row extra) ⌝ }
+    ensures { λ r. ⌜ answerHeld r ≡ better (answerHeld best) (heldAt row (extrasOf row extra)) ⌝ }
 {
     let p = evaluate(row, extra);
     if p.delay < best.delay { p } else { best }
@@ -85,7 +85,7 @@ fn try_point(row: Row, extra: [u64; 32], best: Point) -> Point
 // latencies and those extras together; a block of points that cannot be below the best so far is passed over.
 fn scan(row: Row, steps: Steps, extra: [u64; 32], k: usize, least: u64, best: Point) -> Point
     requires { ⌜ Ready row steps extra k least best ⌝ }
-    ensures { λ r. ⌜ answerHeld r ≡ bestOf (λ es. answerHeld (pointOf (answerOf (serversOf row) (flowsOf row) es))) (answerHeld best) (pointsFrom (take (steps .count) (steps .values)) (take k extra) (row .count - 1 - k)) ⌝ }
+    ensures { λ r. ⌜ answerHeld r ≡ bestOf (heldAt row) (answerHeld best) (pointsFrom (valuesOf steps) (take k extra) (row .count - 1 - k)) ⌝ }
 {
     if k + 1 == row.count {
         return try_point(row, extra, best);
@@ -108,7 +108,7 @@ fn scan(row: Row, steps: Steps, extra: [u64; 32], k: usize, least: u64, best: Po
 // The grid's steps floor(i * start / (g - 1)), which do not fall: a step equal to the one before is left out.
 fn steps_of(start: u64, g: usize) -> Steps
     requires { ⌜ (2 ≤ g) × (g ≤ 9) × (start < 2 ^ 32) ⌝ }
-    ensures { λ r. ⌜ (r .count ≤ 9) × (length (r .values) ≡ 9) × (take (r .count) (r .values) ≡ once (stepAt start g) g) ⌝ }
+    ensures { λ r. ⌜ (r .count ≤ 9) × (length (r .values) ≡ 9) × (valuesOf r ≡ once (stepAt start g) g) ⌝ }
 {
     let mut values = [0u64; 9];
     let mut count: usize = 1;

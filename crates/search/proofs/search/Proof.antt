@@ -25,7 +25,8 @@ scan-requires c κs =
     let t = c .before .steps-of in
     let v = c .before .before .before .before in
     let s = v .before in
-    scan-ready (s .args .row) (s .pre) (v .evaluate .result) (v .evaluate .ensures) (t .result) (t .ensures .0) (t .ensures .1) (t .ensures .2) (c .sum-latencies .result) (c .sum-latencies .ensures)
+    scan-ready (s .args .row) (s .pre) (v .evaluate .result) (v .evaluate .ensures) (t .result) (t .ensures .0) (t .ensures .1) (t .ensures .2)
+    (c .sum-latencies .result) (c .sum-latencies .ensures)
 
 returns : tie.Need-returns
 returns c =
@@ -34,7 +35,8 @@ returns c =
     let t = i .steps-of in
     let v = i .before .before .before in
     let s = v .before in
-    search-is (s .args .row) (s .pre) (v .evaluate .result) (v .evaluate .ensures) (t .result) (t .ensures .0) (t .ensures .1) (t .ensures .2) (k .result) (i .before .if1 .taken) (k .ensures)
+    search-is (s .args .row) (s .pre) (v .evaluate .result) (v .evaluate .ensures) (t .result) (t .ensures .0) (t .ensures .1) (t .ensures .2)
+    (k .result) (i .before .if1 .taken) (k .ensures)
 
 returns-2 : tie.Need-returns-2
 returns-2 c =

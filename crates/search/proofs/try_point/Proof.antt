@@ -12,10 +12,14 @@ evaluate-requires : tie.Need-evaluate-requires
 evaluate-requires c κs = search needs
 
 returns : tie.Need-returns
-returns c = rw (← c .before .before .before .evaluate .ensures) (sym (better-yes (answerHeld (c .before .before .before .before .args .best)) (answerHeld (c .before .before .before .evaluate .result)) (omega arith)))
+returns c =
+    let v = c .before .before .before in
+    rw (← v .evaluate .ensures) (sym (better-yes (answerHeld (v .before .args .best)) (answerHeld (v .evaluate .result)) (omega arith)))
 
 returns-2 : tie.Need-returns-2
-returns-2 c = rw (← c .before .before .before .evaluate .ensures) (sym (better-no (answerHeld (c .before .before .before .before .args .best)) (answerHeld (c .before .before .before .evaluate .result)) (omega arith)))
+returns-2 c =
+    let v = c .before .before .before in
+    rw (← v .evaluate .ensures) (sym (better-no (answerHeld (v .before .args .best)) (answerHeld (v .evaluate .result)) (omega arith)))
 
 pub try-point-spec : {M : Type 1} → statement M
 try-point-spec = tie.close (tie.spec evaluate-requires returns returns-2)
