@@ -2,6 +2,8 @@ pub mod Lines
 pub mod Run
 pub mod Demand
 pub mod Served
+pub mod RunTests
+pub mod Mistakes
 pub mod LinesLaws
 pub mod RunLaws
 pub mod LeftoverLaws
@@ -9,3 +11,6 @@ pub mod ServedLaws
 pub mod WithinLaws
 pub mod AcceptedLaws
 pub mod DemandLaws
+pub mod RunTestLaws
+pub mod Witness
+pub mod MistakeLaws
