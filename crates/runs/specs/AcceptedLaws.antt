@@ -4,7 +4,7 @@ use mathlib.Core.Path.{_≡_, refl, sym, ap, _∙_}
 use mathlib.Core.Bool.{Bool, true, false, cond, _||_, true≢false}
 use mathlib.Core.Logic.{_⊎_, inl, inr}
 use mathlib.Core.List.{List, [], _∷_, _++_}
-use Prim.Native.Nat.{ℕ, zero, suc, _+_, _-_, _≤_, _<_}
+use Prim.Native.Nat.{ℕ, zero, suc, _+_, _≤_, _<_}
 use native.Mathlib.Omega.{arith}
 use lib.Dec.{ltb}
 use lib.ListN.{length, getD, length-append, List·getD-append}
@@ -13,13 +13,12 @@ use borrow.Author.Tests.{ltb-false, lt-ltb, le-leb}
 use Rattle.curves.specs.SlotsLaws.{le-or-lt}
 use Rattle.sheet.specs.Valid.{Valid, serverCount, flowCount, mode, grid}
 use Rattle.row.specs.declared.Flow.{Flow}
-use Rattle.row.specs.declared.Check.{Check}
 use Rattle.row.specs.declared.Check.the-variants.{Passed, Crossing, Crowded, Points}
 use Rattle.row.specs.Sums.{any}
 use Rattle.row.specs.Tandem.{Tandem, size, server, flow, crosses, rates}
 use Rattle.row.specs.Groups.{groups}
 use Rattle.row.specs.Checks.{overlaps, notNested, crowded, lowestCrowded, tooMany}
-use Rattle.row.specs.Accepted.{Lies, Sound, Accepted}
+use Rattle.row.specs.Accepted.{Accepted}
 use Rattle.row.specs.OfSheet.{listed, serverOf, flowOf, watchedOf, tandemOf, gridOf, checkOf}
 use Rattle.tree.specs.TestLaws.{or-left, or-right}
 

@@ -3,19 +3,19 @@
 -- Assumes nothing.
 use mathlib.Core.Path.{_≡_, refl, sym, ap, _∙_, subst}
 use mathlib.Core.Bool.{Bool, true, false, cond}
-use mathlib.Core.List.{List, [], _∷_, List·Memᴰ}
-use Prim.Native.Nat.{ℕ, zero, suc, _+_, _-_, _≤_, _<_}
+use mathlib.Core.List.{List, [], _∷_}
+use Prim.Native.Nat.{ℕ, suc, _+_, _-_, _≤_, _<_}
 use native.Mathlib.Omega.{arith}
 use lib.Dec.{eqb, ltb}
 use lib.ListN.{length, replicate}
 use Rattle.sheet.specs.Sheet.{sheetOf, these}
 use Rattle.sheet.specs.TripLaws.{read-valid}
-use Rattle.sheet.specs.Valid.{Valid, serverCount, mode, grid}
+use Rattle.sheet.specs.Valid.{serverCount, mode, grid}
 use Rattle.curves.specs.Curve.{Rates, delay}
 use Rattle.curves.specs.StageLaws.{rates-weaken}
 use Rattle.row.specs.declared.Check.the-variants.{Passed}
 use Rattle.row.specs.Sums.{weigh}
-use Rattle.row.specs.Tandem.{Tandem, size, server, flow, crosses, watched, rates}
+use Rattle.row.specs.Tandem.{Tandem, size, flow, watched, rates}
 use Rattle.row.specs.Groups.{groups}
 use Rattle.row.specs.Accepted.{Sound, Accepted}
 use Rattle.row.specs.OfSheet.{tandemOf, gridOf, checkOf}
@@ -28,7 +28,7 @@ use Rattle.tree.specs.SumLaws.{total-at}
 use Rattle.tree.specs.StretchLaws.{curve-rates}
 use Rattle.tree.specs.NestedLaws.{tree-fits}
 use Rattle.runs.specs.Lines.{keep, by, Prefix}
-use Rattle.runs.specs.Run.{Run, Keeps, joinedBy, leftBy, ofFlow}
+use Rattle.runs.specs.Run.{Run, Keeps, ofFlow}
 use Rattle.runs.specs.Demand.{OnTime, Within, boundOf}
 use Rattle.runs.specs.Served.{past, come, gone, Good}
 use Rattle.runs.specs.LinesLaws.{prefix-keep, prefix-both, by-prefix, keep-length-mono}

@@ -79,7 +79,10 @@ module _ {B : Type 0} where
   prefix-refl l = record { rest = []; whole = append-nil l }
 
   pub prefix-trans : {l m n : List B} → Prefix l m → Prefix m n → Prefix l n
-  prefix-trans {l} h k = record { rest = h .rest ++ k .rest; whole = sym (append-assoc l (h .rest) (k .rest)) ∙ ap (λ (r : List B). r ++ k .rest) (h .whole) ∙ k .whole }
+  prefix-trans {l} h k = record {
+    rest = h .rest ++ k .rest;
+    whole = sym (append-assoc l (h .rest) (k .rest)) ∙ ap (λ (r : List B). r ++ k .rest) (h .whole) ∙ k .whole;
+  }
 
   pub prefix-keep : (p : B → Bool) {l m : List B} → Prefix l m → Prefix (keep p l) (keep p m)
   prefix-keep p {l} h = record { rest = keep p (h .rest); whole = sym (keep-append p l (h .rest)) ∙ ap (keep p) (h .whole) }
@@ -120,7 +123,8 @@ module _ {B : Type 0} where
       each-append [] m x y = y
       each-append (a ∷ l) m x y = (x .0, each-append l m (x .1) y)
 
-  pub by-same : (p : B → Bool) (f g : ℕ → List B) (H : ℕ) → ((t : ℕ) → 0 < t → t ≤ H → keep p (f t) ≡ keep p (g t)) → (t : ℕ) → t ≤ H → keep p (by f t) ≡ keep p (by g t)
+  pub by-same : (p : B → Bool) (f g : ℕ → List B) (H : ℕ) → ((t : ℕ) → 0 < t → t ≤ H → keep p (f t) ≡ keep p (g t))
+      → (t : ℕ) → t ≤ H → keep p (by f t) ≡ keep p (by g t)
   unfolding by
   by-same p f g H h zero k = refl
   by-same p f g H h (suc t) k =

@@ -5,20 +5,20 @@ use Prim.Native.Nat.{ℕ, zero, suc, _+_, _-_, _*_, _≤_, _<_, max}
 use mathlib.Core.Path.{_≡_, refl}
 use mathlib.Core.Bool.{Bool, true, false, cond}
 use mathlib.Core.Logic.{_⊎_, inl, inr}
-use mathlib.Core.List.{List, [], _∷_, List·Memᴰ}
+use mathlib.Core.List.{[], _∷_}
 use native.Mathlib.Omega.{arith}
 use lib.Dec.{ltb}
 use lib.ListN.{length}
 use Rattle.numbers.specs.Seven.{numberAt}
 use Rattle.sheet.specs.Rule.{ruleAt, seenAfter, serverNumbers}
 use Rattle.sheet.specs.Sheet.{stepOn, sheetOf, these}
-use Rattle.curves.specs.Slots.{bucket, serve, left, zeroUpTo, Covers}
-use Rattle.curves.specs.SlotsLaws.{le-or-lt, zero-after}
+use Rattle.curves.specs.Slots.{bucket, serve, left, zeroUpTo, Covers, Least}
+use Rattle.curves.specs.SlotsLaws.{le-or-lt, zero-before, zero-after}
 use Rattle.curves.specs.Curve.{neutral, joined, ceil, greatest, catchUp, leastWait, remainder, lateness, delay}
 use Rattle.curves.specs.Curve.{server as serverShape}
 use Rattle.row.specs.declared.Check.the-variants.{Passed}
 use Rattle.row.specs.Sums.{total, any}
-use Rattle.row.specs.Tandem.{Tandem, size, crosses, on, bursts, rates}
+use Rattle.row.specs.Tandem.{Tandem, crosses, on, bursts, rates}
 use Rattle.row.specs.Groups.{put, used, from, from-on, groups}
 use Rattle.row.specs.Checks.{overlaps, notNested, crowded, lowestCrowded, tooMany}
 use Rattle.row.specs.OfSheet.{listed, tandemOf, gridOf, checkOf}
@@ -33,8 +33,8 @@ use Rattle.runs.specs.RunTests.{each, eachOf, begins, same, has, onPath,
 use Rattle.runs.specs.RunTestLaws.{on-path, in-order, relay-kept, buckets-kept, guarantees-kept, keeps-all, has-is, has-not}
 use Rattle.runs.specs.RunLaws.{bucket-after}
 use Rattle.runs.specs.DemandLaws.{demand-three}
-use Rattle.runs.specs.Mistakes.{highest, runningLeft, burstSheet, burstJoins, burstLeaves, burstRun}
-use Rattle.runs.specs.Mistakes.{SameBytes, InSlotOrder, KeepsSlots, turnSheet, turnEnters, turnSlots, between, turnRun, turnTaken}
+use Rattle.runs.specs.Mistakes.{highest, runningLeft, burstSheet, burstRun}
+use Rattle.runs.specs.Mistakes.{SameBytes, KeepsSlots, turnSheet, turnEnters, turnSlots, between, straightRun, turnRun, turnTaken}
 
 -- the running greatest value
 
@@ -63,6 +63,15 @@ running-covers (suc s) =
     let z = zero-after 4 (suc s + 4) (highest (suc s + 4) f) (omega arith) in
     omega (arith, a, b, z, bucket-after 40 6 (suc s + 4 - 4) (omega arith))
 
+-- and no smaller number is: up to the wait it has nothing
+pub running-delay : Least (Covers (runningLeft (serve 10 0) 40 6 4) 12 1) 4
+unfolding runningLeft bucket
+running-delay = record { holds = running-covers; least = λ d k. go d (le-or-lt 4 d) (k 1) }
+  where
+    go : (d : ℕ) → (4 ≤ d) ⊎ (d < 4) → 12 + 1 * 1 ≤ runningLeft (serve 10 0) 40 6 4 (1 + d) → 4 ≤ d
+    go d (inl l) k = l
+    go d (inr l) k = absurd (omega (arith, k, zero-before 4 (1 + d) (highest (1 + d) (λ u. serve 10 0 u - bucket 40 6 (u - 4))) (omega arith)))
+
 pub burst-read : sheetOf burstSheet ≡ these burstSheet
 unfolding sheetOf stepOn ruleAt seenAfter serverNumbers numberAt
 burst-read = refl
@@ -73,7 +82,8 @@ burst-passed = refl
 
 -- by the rule it is 7, with the same wait
 pub burst-bound : boundOf burstSheet ≡ 7
-unfolding boundOf searched foundOf answerAt waits bound stepsOf pointsOf better tandemOf listed gridOf groups from-on from used any on tree walk top curve joined neutral serverShape afterGroup groupWait leastWait catchUp remainder bursts rates total delay lateness greatest ceil
+unfolding boundOf searched foundOf answerAt waits bound stepsOf pointsOf better tandemOf listed gridOf groups from-on from used any on
+    tree walk top curve joined neutral serverShape afterGroup groupWait leastWait catchUp remainder bursts rates total delay lateness greatest ceil
 burst-bound = refl
 
 -- the run keeps every premise
@@ -107,8 +117,21 @@ unfolding checkOf tandemOf listed gridOf notNested overlaps lowestCrowded crowde
 turn-passed = refl
 
 pub turn-bound : boundOf turnSheet ≡ 4
-unfolding boundOf searched foundOf answerAt waits bound stepsOf pointsOf better tandemOf listed gridOf groups from-on from used any on tree walk top curve joined neutral serverShape afterGroup groupWait leastWait catchUp remainder bursts rates total delay lateness greatest ceil
+unfolding boundOf searched foundOf answerAt waits bound stepsOf pointsOf better tandemOf listed gridOf groups from-on from used any on
+    tree walk top curve joined neutral serverShape afterGroup groupWait leastWait catchUp remainder bursts rates total delay lateness greatest ceil
 turn-bound = refl
+
+-- in the order of bytes the bound is kept, and reached: byte 8, a watched one, entered in slot 1 and is not out by slot 4
+
+pub straight-keeps : Keeps (tandemOf turnSheet) straightRun 6
+unfolding tandemOf listed keepsAll onPath inOrder relayed keepsBuckets guarantees each eachOf begins same any crosses by keep bucket serve
+straight-keeps = keeps-all (tandemOf turnSheet) straightRun 6 refl
+
+pub straight-reached : OnTime (tandemOf turnSheet) straightRun 6 3 → ⊥
+unfolding tandemOf listed has by
+straight-reached h = has-not 8 (leftBy straightRun 2 4) refl (h 1 (omega arith) 8 refl (has-is 8 (joinedBy straightRun 1 1) refl))
+
+-- in the order of slots it is not
 
 turn-fifth : (a b c : Bool) → length {A = ℕ} (put b 9 (put c 10 (put a 8 []))) ≡ length {A = ℕ} (put a 8 (put b 9 (put c 10 [])))
 turn-fifth true true true = refl
@@ -138,7 +161,7 @@ turn-same j t = go (ltb j 2)
     go true p = refl
     go false p = turn-between t p
 
--- the run keeps it, and every other premise
+-- the run keeps the order of slots, and every other premise
 pub turn-keeps : KeepsSlots (tandemOf turnSheet) turnRun 6
 unfolding tandemOf listed onPath inOrder relayed keepsBuckets guarantees each eachOf begins same any crosses by keep bucket serve
 turn-keeps = record {

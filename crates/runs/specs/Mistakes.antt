@@ -73,7 +73,7 @@ turnEnters (suc (suc zero)) = 9 ∷ []
 turnEnters (suc (suc (suc zero))) = 10 ∷ []
 turnEnters (suc (suc (suc (suc t)))) = []
 
--- in slot 5 server 1 sends 8, 9 and 10, and server 2 the last two of these before the first
+-- two bytes leave a server in each of slots 1 to 4, and then these
 abbrev pub turnSlots : List ℕ → List ℕ → ℕ → List ℕ
 turnSlots fifth sixth zero = []
 turnSlots fifth sixth (suc zero) = 0 ∷ 1 ∷ []
@@ -84,15 +84,25 @@ turnSlots fifth sixth (suc (suc (suc (suc (suc zero))))) = fifth
 turnSlots fifth sixth (suc (suc (suc (suc (suc (suc zero)))))) = sixth
 turnSlots fifth sixth (suc (suc (suc (suc (suc (suc (suc t))))))) = []
 
+-- what server 1 sends to server 2: 8, 9 and 10 in slot 5
 abbrev pub between : ℕ → List ℕ
 between = turnSlots (8 ∷ 9 ∷ 10 ∷ []) []
 
-abbrev pub turnRun : Run ℕ
-turnRun = record {
+-- the run in which server 2 sends these in slots 5 and 6
+abbrev pub twoServers : List ℕ → List ℕ → Run ℕ
+twoServers fifth sixth = record {
   of = λ b. cond (ltb b 6) 1 (cond (ltb b 9) 0 1);
   join = λ j. cond (ltb j 2) turnEnters between;
-  leave = λ j. cond (ltb j 2) between (turnSlots (9 ∷ 10 ∷ []) (8 ∷ []));
+  leave = λ j. cond (ltb j 2) between (turnSlots fifth sixth);
 }
+
+-- in the order of bytes
+abbrev pub straightRun : Run ℕ
+straightRun = twoServers (8 ∷ 9 ∷ []) (10 ∷ [])
+
+-- turned round
+abbrev pub turnRun : Run ℕ
+turnRun = twoServers (9 ∷ 10 ∷ []) (8 ∷ [])
 
 -- the order in which server 2 takes the bytes of slot 5
 abbrev pub turnTaken : ℕ → ℕ → List ℕ

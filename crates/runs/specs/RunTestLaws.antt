@@ -1,23 +1,22 @@
 -- The tests of the premises are sound: a record that passes them keeps the premises.
 -- Assumes nothing.
-use mathlib.Core.Path.{_≡_, refl, sym, ap, _∙_}
-use mathlib.Core.Bool.{Bool, true, false, _&&_, _||_, true≢false, false≢true}
+use mathlib.Core.Path.{_≡_, refl, sym, _∙_}
+use mathlib.Core.Bool.{Bool, true, false, _&&_, true≢false, false≢true}
 use mathlib.Core.Logic.{_⊎_, inl, inr}
-use mathlib.Core.List.{List, [], _∷_, _++_, List·Memᴰ, List·Memᴰ·head, List·Memᴰ·tail}
+use mathlib.Core.List.{List, [], _∷_, List·Memᴰ, List·Memᴰ·head, List·Memᴰ·tail}
 use Prim.Native.Nat.{ℕ, zero, suc, _+_, _-_, _≤_, _<_}
 use native.Mathlib.Omega.{arith}
-use lib.Dec.{leb, eqb}
+use lib.Dec.{eqb}
 use lib.ListN.{length}
 use borrow.Author.Tests.{leb-true, eqb-true, eq-eqb}
-use Rattle.curves.specs.Slots.{bucket, serve}
+use Rattle.curves.specs.Slots.{serve}
 use Rattle.curves.specs.SlotsLaws.{le-or-lt}
-use Rattle.row.specs.Sums.{any}
-use Rattle.row.specs.Tandem.{Tandem, size, server, flow, crosses}
+use Rattle.row.specs.Tandem.{Tandem, size, server, crosses}
 use Rattle.tree.specs.TestLaws.{both-true, or-left, or-right, or-cases}
 use Rattle.tree.specs.SumLaws.{any-found}
-use Rattle.runs.specs.Lines.{keep, Each, by, Prefix}
-use Rattle.runs.specs.Run.{Run, joinedBy, leftBy, ofFlow, OnPath, InOrder, Relayed, KeepsBuckets, Guarantees, Keeps}
-use Rattle.runs.specs.RunTests.{each, eachOf, begins, same, has, onPath, inOrder, relayed, count, keepsBuckets, guarantees, keepsAll}
+use Rattle.runs.specs.Lines.{keep, Each, Prefix}
+use Rattle.runs.specs.Run.{Run, joinedBy, leftBy, OnPath, InOrder, Relayed, KeepsBuckets, Guarantees, Keeps}
+use Rattle.runs.specs.RunTests.{each, eachOf, begins, same, has, onPath, inOrder, relayed, keepsBuckets, guarantees, keepsAll}
 
 each-at : (n : ℕ) (p : ℕ → Bool) → each n p ≡ true → (i : ℕ) → i < n → p i ≡ true
 unfolding each
@@ -93,7 +92,8 @@ module _ (row : Tandem) (run : Run ℕ) (H : ℕ) where
       from-one
       (λ j. (t : ℕ) → 0 < t → t ≤ H → keep (λ b. crosses row (run .of b) j) (run .join (suc j) t) ≡ keep (λ b. crosses row (run .of b) (suc j)) (run .leave j t))
       (size row - 1)
-      (λ i k. from-one (λ t. keep (λ b. crosses row (run .of b) (suc i)) (run .join (suc (suc i)) t) ≡ keep (λ b. crosses row (run .of b) (suc (suc i))) (run .leave (suc i) t)) H
+      (λ i k. from-one
+      (λ t. keep (λ b. crosses row (run .of b) (suc i)) (run .join (suc (suc i)) t) ≡ keep (λ b. crosses row (run .of b) (suc (suc i))) (run .leave (suc i) t)) H
       (λ t l. same-is _ _ (each-at H _ (each-at (size row - 1) _ h i k) t l))) j a (omega arith) t c d
 
   pub buckets-kept : keepsBuckets row run H ≡ true → KeepsBuckets row run H
@@ -107,7 +107,8 @@ module _ (row : Tandem) (run : Run ℕ) (H : ℕ) where
       from-one
       (λ j. (t : ℕ) → t ≤ H → (s : ℕ) × (s ≤ t) × (length (joinedBy run j s) + serve (server row j .rate) (server row j .latency) (t - s) ≤ length (leftBy run j t)))
       (size row)
-      (λ i k t l. let x = any-found (suc t) _ (each-at (suc H) _ (each-at (size row) _ h i k) t (omega arith)) in (x .0, omega (arith, x .1), leb-true _ _ (x .2))) j a b t c
+      (λ i k t l. let x = any-found (suc t) _ (each-at (suc H) _ (each-at (size row) _ h i k) t (omega arith)) in
+      (x .0, omega (arith, x .1), leb-true _ _ (x .2))) j a b t c
 
   pub keeps-all : keepsAll row run H ≡ true → Keeps row run H
   unfolding keepsAll

@@ -1,14 +1,14 @@
 -- The premises as tests of a record whose bytes are numbers: an explicit record is seen to keep them by computation.
 -- Assumes nothing.
 use Prim.Native.Nat.{ℕ, zero, suc, _+_, _-_}
-use mathlib.Core.Bool.{Bool, true, false, _&&_, _||_, not}
+use mathlib.Core.Bool.{Bool, true, false, _&&_, _||_}
 use mathlib.Core.List.{List, [], _∷_}
 use lib.Dec.{leb, eqb}
 use lib.ListN.{length}
 use Rattle.curves.specs.Slots.{bucket, serve}
 use Rattle.row.specs.Sums.{any}
 use Rattle.row.specs.Tandem.{Tandem, size, server, flow, crosses}
-use Rattle.runs.specs.Lines.{keep, by}
+use Rattle.runs.specs.Lines.{keep}
 use Rattle.runs.specs.Run.{Run, joinedBy, leftBy, ofFlow}
 
 -- each of 0 .. n - 1 passes

@@ -17,12 +17,16 @@ unfoldable pub past : {B : Type 0} → Run B → ℕ → ℕ → ℕ → List B
 past run i zero = run .join i
 past run i (suc n) = run .leave (i + n)
 
+-- the byte is of a flow of P
+abbrev pub among : {B : Type 0} → Run B → (ℕ → Bool) → B → Bool
+among run P b = P (run .of b)
+
 -- the bytes of the flows of P that have joined server i by slot t, and those that have passed n servers from there
 unfoldable pub come : {B : Type 0} → Run B → (ℕ → Bool) → ℕ → ℕ → List B
-come run P i t = keep (λ b. P (run .of b)) (by (run .join i) t)
+come run P i t = keep (among run P) (by (run .join i) t)
 
 unfoldable pub gone : {B : Type 0} → Run B → (ℕ → Bool) → ℕ → ℕ → ℕ → List B
-gone run P i n t = keep (λ b. P (run .of b)) (by (past run i n) t)
+gone run P i n t = keep (among run P) (by (past run i n) t)
 
 -- the flows of P keep their order over n servers from server i on, and are served by the curve
 pub record Good {B : Type 0} (run : Run B) (H : ℕ) (P : ℕ → Bool) (i n : ℕ) (c : Shape) : Type 0 where

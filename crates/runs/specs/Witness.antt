@@ -3,7 +3,6 @@
 -- Assumes nothing.
 use Prim.Native.Nat.{ℕ, zero, suc}
 use mathlib.Core.Path.{_≡_, refl}
-use mathlib.Core.Bool.{Bool, true, false, cond}
 use mathlib.Core.List.{List, [], _∷_, List·Memᴰ}
 use native.Mathlib.Omega.{arith}
 use Rattle.numbers.specs.Seven.{numberAt}
@@ -14,7 +13,7 @@ use Rattle.curves.specs.Curve.{neutral, joined, ceil, greatest, lateness, delay
 use Rattle.curves.specs.Curve.{server as serverShape}
 use Rattle.row.specs.declared.Check.the-variants.{Passed}
 use Rattle.row.specs.Sums.{total, any}
-use Rattle.row.specs.Tandem.{Tandem, size, crosses, on, bursts, rates}
+use Rattle.row.specs.Tandem.{crosses, on, rates}
 use Rattle.row.specs.Groups.{used, from, from-on, groups}
 use Rattle.row.specs.Checks.{overlaps, notNested, crowded, lowestCrowded, tooMany}
 use Rattle.row.specs.OfSheet.{listed, tandemOf, gridOf, checkOf}
@@ -64,11 +63,13 @@ run-keeps = keeps-all (tandemOf sheet) run 2 refl
 
 -- "P3 | as P2, watched 6, 5 | bound 1"
 pub bound-is : boundOf sheet ≡ 1
-unfolding boundOf searched foundOf answerAt waits bound stepsOf pointsOf better tandemOf listed gridOf groups from-on from used any on tree walk top curve joined neutral serverShape delay lateness greatest ceil
+unfolding boundOf searched foundOf answerAt waits bound stepsOf pointsOf better tandemOf listed gridOf groups from-on from used any on
+    tree walk top curve joined neutral serverShape delay lateness greatest ceil
 bound-is = refl
 
 -- byte 10 entered in slot 1, is not out by the end of slot 1, and is out by the end of slot 2
-pub late-byte : (run .of 10 ≡ 0) × List·Memᴰ {A = ℕ} 10 (joinedBy run 1 1) × (List·Memᴰ {A = ℕ} 10 (leftBy run 1 1) → ⊥) × List·Memᴰ {A = ℕ} 10 (leftBy run 1 2)
+pub late-byte : (run .of 10 ≡ 0) × List·Memᴰ {A = ℕ} 10 (joinedBy run 1 1) × (List·Memᴰ {A = ℕ} 10 (leftBy run 1 1) → ⊥)
+    × List·Memᴰ {A = ℕ} 10 (leftBy run 1 2)
 unfolding has by
 late-byte = (refl, has-is 10 (joinedBy run 1 1) refl, has-not 10 (leftBy run 1 1) refl, has-is 10 (leftBy run 1 2) refl)
 
