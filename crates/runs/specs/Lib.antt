@@ -1,0 +1,16 @@
+pub mod Lines
+pub mod Run
+pub mod Demand
+pub mod Served
+pub mod RunTests
+pub mod Mistakes
+pub mod LinesLaws
+pub mod RunLaws
+pub mod LeftoverLaws
+pub mod ServedLaws
+pub mod WithinLaws
+pub mod AcceptedLaws
+pub mod DemandLaws
+pub mod RunTestLaws
+pub mod Witness
+pub mod MistakeLaws
