@@ -24,7 +24,7 @@ use Rattle.tree.specs.Fits.{Fits}
 use Rattle.tree.specs.Tree.{tree}
 use Rattle.tree.specs.Grid.{Answer, better, bestOf, foundOf, stepsOf, pointsOf}
 use Rattle.tree.specs.Bound.{bound, extraOf, answerAt, searched}
-use Rattle.tree.specs.SumLaws.{total-at}
+use Rattle.row.specs.SumLaws.{total-at}
 use Rattle.tree.specs.StretchLaws.{curve-rates}
 use Rattle.tree.specs.NestedLaws.{tree-fits}
 use Rattle.runs.specs.Lines.{keep, by, Prefix}
@@ -36,7 +36,7 @@ use Rattle.runs.specs.RunLaws.{bucketed-after}
 use Rattle.runs.specs.LeftoverLaws.{deadline}
 use Rattle.runs.specs.ServedLaws.{good}
 use Rattle.runs.specs.WithinLaws.{within-out}
-use Rattle.runs.specs.AcceptedLaws.{row-accepted}
+use Rattle.row.specs.OfSheetLaws.{passed-row}
 
 watched-rate : (row : Tandem) → 0 < length (row .flows) → flow row 0 .rate ≤ rates row watched
 unfolding rates watched
@@ -136,11 +136,11 @@ pub demand-three : (s xs : List ℕ) → sheetOf s ≡ these xs → checkOf xs �
     → {B : Type 0} (run : Run B) (H : ℕ) → Keeps (tandemOf xs) run H → OnTime (tandemOf xs) run H (boundOf xs)
 unfolding boundOf
 demand-three s xs read passed run H keeps =
-    on-time-searched (tandemOf xs) (row-accepted xs (read-valid s xs read) passed) (mode xs) (gridOf (serverCount xs) (grid xs)) run H keeps
+    on-time-searched (tandemOf xs) (passed-row xs (read-valid s xs read) passed .accepts) (mode xs) (gridOf (serverCount xs) (grid xs)) run H keeps
 
 -- and byte for byte, in order
 pub demand-three-in-order : (s xs : List ℕ) → sheetOf s ≡ these xs → checkOf xs ≡ Passed
     → {B : Type 0} (run : Run B) (H : ℕ) → Keeps (tandemOf xs) run H → Within run H 1 (size (tandemOf xs)) (boundOf xs)
 unfolding boundOf
 demand-three-in-order s xs read passed run H keeps =
-    searched-in-order (tandemOf xs) (row-accepted xs (read-valid s xs read) passed) (mode xs) (gridOf (serverCount xs) (grid xs)) run H keeps
+    searched-in-order (tandemOf xs) (passed-row xs (read-valid s xs read) passed .accepts) (mode xs) (gridOf (serverCount xs) (grid xs)) run H keeps

@@ -9,7 +9,6 @@ pub mod RunLaws
 pub mod LeftoverLaws
 pub mod ServedLaws
 pub mod WithinLaws
-pub mod AcceptedLaws
 pub mod DemandLaws
 pub mod RunTestLaws
 pub mod Witness

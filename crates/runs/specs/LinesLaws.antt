@@ -13,7 +13,7 @@ use borrow.Author.Tests.{eq-eqb}
 use Rattle.curves.specs.SlotsLaws.{le-or-lt}
 use Rattle.row.specs.Sums.{weigh, total}
 use Rattle.row.specs.Groups.{put}
-use Rattle.tree.specs.SumLaws.{total-mono, total-add, total-at}
+use Rattle.row.specs.SumLaws.{total-mono, total-add, total-at}
 use Rattle.runs.specs.Lines.{keep, Each, by, Prefix}
 
 module _ {B : Type 0} where

@@ -12,8 +12,8 @@ use borrow.Author.Tests.{leb-true, eqb-true, eq-eqb}
 use Rattle.curves.specs.Slots.{serve}
 use Rattle.curves.specs.SlotsLaws.{le-or-lt}
 use Rattle.row.specs.Tandem.{Tandem, size, server, crosses}
-use Rattle.tree.specs.TestLaws.{both-true, or-left, or-right, or-cases}
-use Rattle.tree.specs.SumLaws.{any-found}
+use Rattle.row.specs.TestLaws.{both-true, or-left, or-right, or-cases}
+use Rattle.row.specs.SumLaws.{any-found}
 use Rattle.runs.specs.Lines.{keep, Each, Prefix}
 use Rattle.runs.specs.Run.{Run, joinedBy, leftBy, OnPath, InOrder, Relayed, KeepsBuckets, Guarantees, Keeps}
 use Rattle.runs.specs.RunTests.{each, eachOf, begins, same, has, onPath, inOrder, relayed, keepsBuckets, guarantees, keepsAll}

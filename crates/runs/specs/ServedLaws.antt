@@ -17,9 +17,9 @@ use Rattle.curves.specs.StageLaws.{rates-weaken}
 use Rattle.row.specs.Tandem.{Tandem, Path, size, server, flow, crosses, on, bursts, rates}
 use Rattle.tree.specs.Stretch.{Stretch, none, then-server, then-group, span, groupWait, afterGroup, curve}
 use Rattle.tree.specs.Fits.{Fits}
-use Rattle.tree.specs.TestLaws.{or-left, or-right}
-use Rattle.tree.specs.SumLaws.{total-or}
-use Rattle.tree.specs.FlowLaws.{on-is}
+use Rattle.row.specs.TestLaws.{or-left, or-right}
+use Rattle.row.specs.SumLaws.{total-or}
+use Rattle.row.specs.TandemLaws.{on-is}
 use Rattle.tree.specs.StretchLaws.{spans, ends-in-row, curve-rates}
 use Rattle.runs.specs.Lines.{keep, Each, by, Prefix}
 use Rattle.runs.specs.Run.{Run, Keeps, Bucketed}

@@ -15,7 +15,7 @@ use Rattle.curves.specs.SlotsLaws.{le-or-lt}
 use Rattle.row.specs.OfSheet.{listed}
 use Rattle.tree.specs.Grid.{stepsOf, flat, pointsFrom, pointsOf, Answer, better, bestOf, Found, foundOf}
 use Rattle.tree.specs.Searched.{Each, First, Low}
-use Rattle.tree.specs.TestLaws.{decide}
+use Rattle.row.specs.TestLaws.{decide}
 
 -- lists of which each entry has a property
 

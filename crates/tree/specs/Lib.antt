@@ -10,9 +10,6 @@ pub mod Fine
 pub mod Stands
 pub mod Searched
 pub mod Meaning
-pub mod TestLaws
-pub mod SumLaws
-pub mod TandemLaws
 pub mod PlanLaws
 pub mod NestedLaws
 pub mod StretchLaws

@@ -23,8 +23,8 @@ use Rattle.tree.specs.Tree.{tree}
 use Rattle.tree.specs.Bound.{bound, extraOf, answerAt}
 use Rattle.tree.specs.Fits.{Fits}
 use Rattle.tree.specs.Meaning.{behind, meaning}
-use Rattle.tree.specs.SumLaws.{total-at}
-use Rattle.tree.specs.TandemLaws.{rates-or}
+use Rattle.row.specs.SumLaws.{total-at}
+use Rattle.row.specs.TandemLaws.{rates-or}
 use Rattle.tree.specs.PlanLaws.{stage-count}
 use Rattle.tree.specs.NestedLaws.{tree-fits}
 use Rattle.tree.specs.StretchLaws.{curve-rates}

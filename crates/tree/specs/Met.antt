@@ -24,7 +24,7 @@ use Rattle.tree.specs.Bound.{bound, extraOf, answerAt}
 use Rattle.tree.specs.Fine.{AllFine}
 use Rattle.tree.specs.Amounts.{sumOf}
 use Rattle.tree.specs.Meaning.{meaning}
-use Rattle.tree.specs.SumLaws.{none-of}
+use Rattle.row.specs.SumLaws.{none-of}
 use Rattle.tree.specs.SizeLaws.{plan-fine}
 use Rattle.tree.specs.PruneLaws.{latenciesOf, delay-ge-sum}
 use Rattle.tree.specs.MeaningLaws.{bound-is-least}

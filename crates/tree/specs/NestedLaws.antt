@@ -17,9 +17,9 @@ use Rattle.row.specs.Accepted.{Lies, Sound, Accepted}
 use Rattle.tree.specs.Stretch.{Stretch, none, then-server, then-group, span}
 use Rattle.tree.specs.Tree.{Piece, single, whole, pick, walk, inside, top, tree}
 use Rattle.tree.specs.Fits.{Fits}
-use Rattle.tree.specs.TestLaws.{or-left, or-right, or-cases, both-true, true-both, not-passed, same-test, decide}
-use Rattle.tree.specs.SumLaws.{any-at, any-found}
-use Rattle.tree.specs.TandemLaws.{on-is, is-on, crosses-is, is-crosses}
+use Rattle.row.specs.TestLaws.{or-left, or-right, or-cases, both-true, true-both, not-passed, same-test, decide}
+use Rattle.row.specs.SumLaws.{any-at, any-found}
+use Rattle.row.specs.TandemLaws.{on-is, is-on, crosses-is, is-crosses}
 
 walk-end : (n : ℕ) (t : ℕ → Piece) (p : Stretch) (j e : ℕ) → ltb e j ≡ true → walk (suc n) t p j e ≡ p
 unfolding walk

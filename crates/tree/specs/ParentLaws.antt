@@ -20,9 +20,9 @@ use Rattle.tree.specs.Tree.{tree}
 use Rattle.tree.specs.Fits.{Fits}
 use Rattle.tree.specs.Amounts.{weights}
 use Rattle.tree.specs.Stands.{In, Child, Alone, times, Contains, Parent, Outermost, Pieces}
-use Rattle.tree.specs.TestLaws.{or-left, or-right, or-cases, decide, not-passed}
-use Rattle.tree.specs.SumLaws.{total-at, total-mono}
-use Rattle.tree.specs.TandemLaws.{on-is, is-on, crosses-is, is-crosses}
+use Rattle.row.specs.TestLaws.{or-left, or-right, or-cases, decide, not-passed}
+use Rattle.row.specs.SumLaws.{total-at, total-mono}
+use Rattle.row.specs.TandemLaws.{on-is, is-on, crosses-is, is-crosses}
 use Rattle.tree.specs.NestedLaws.{order-groups, tree-fits}
 use Rattle.tree.specs.StretchLaws.{spans}
 use Rattle.tree.specs.SizeLaws.{weights-some}

@@ -26,9 +26,9 @@ use Rattle.tree.specs.Bound.{bound, waits, extraOf, answerAt}
 use Rattle.tree.specs.Fits.{Fits}
 use Rattle.tree.specs.Amounts.{latencies, extras, sumOf}
 use Rattle.tree.specs.Stands.{In, numbered}
-use Rattle.tree.specs.TestLaws.{or-left, or-right, or-cases, decide, not-passed}
-use Rattle.tree.specs.SumLaws.{total-mono, total-add, total-same, total-zero, total-front}
-use Rattle.tree.specs.TandemLaws.{on-is, is-crosses}
+use Rattle.row.specs.TestLaws.{or-left, or-right, or-cases, decide, not-passed}
+use Rattle.row.specs.SumLaws.{total-mono, total-add, total-same, total-zero, total-front}
+use Rattle.row.specs.TandemLaws.{on-is, is-crosses}
 use Rattle.tree.specs.NestedLaws.{Order, later, order-groups, tree-fits}
 use Rattle.tree.specs.StretchLaws.{offset-ge}
 

@@ -18,7 +18,7 @@ use Rattle.tree.specs.Tree.{tree}
 use Rattle.tree.specs.Amounts.{sumOf}
 use Rattle.tree.specs.Fine.{AllFine}
 use Rattle.tree.specs.Searched.{Each, First, Low}
-use Rattle.tree.specs.TandemLaws.{on-is}
+use Rattle.row.specs.TandemLaws.{on-is}
 use Rattle.tree.specs.NestedLaws.{Order, order-groups}
 use Rattle.tree.specs.SizeLaws.{start-small, plan-fine}
 use Rattle.tree.specs.PruneLaws.{latenciesOf, wait-le-delay, delay-ge-sum}

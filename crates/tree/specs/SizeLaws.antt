@@ -28,9 +28,9 @@ use Rattle.tree.specs.Planned.{nodesOf, treeNodes}
 use Rattle.tree.specs.Fits.{Fits}
 use Rattle.tree.specs.Amounts.{latencies, weights, extras, count}
 use Rattle.tree.specs.Fine.{Fine, AllFine}
-use Rattle.tree.specs.TestLaws.{or-cases, both-true, not-passed}
-use Rattle.tree.specs.SumLaws.{total-at, total-or, total-mono, total-subset}
-use Rattle.tree.specs.TandemLaws.{on-is, is-crosses}
+use Rattle.row.specs.TestLaws.{or-cases, both-true, not-passed}
+use Rattle.row.specs.SumLaws.{total-at, total-or, total-mono, total-subset}
+use Rattle.row.specs.TandemLaws.{on-is, is-crosses}
 use Rattle.tree.specs.PlanLaws.{plan-is-tree, stage-count}
 use Rattle.tree.specs.NestedLaws.{Order, Outer, outside, order-groups, outer-all, outer-tail, tree-fits, node-fits, own-outside}
 use Rattle.tree.specs.StretchLaws.{curve-rates, wait-most, delay-most, offset-le, latencies-le, extras-le, Small, stages-small}

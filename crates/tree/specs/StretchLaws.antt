@@ -22,8 +22,8 @@ use Rattle.tree.specs.Plan.{Top, alone, over, serverCurve, pieceOn, alon
 use Rattle.tree.specs.Stretch.{Stretch, none, then-server, then-group, span, groupWait, afterGroup, curve}
 use Rattle.tree.specs.Fits.{Fits}
 use Rattle.tree.specs.Amounts.{latencies, weights, extras, count}
-use Rattle.tree.specs.TestLaws.{or-left}
-use Rattle.tree.specs.SumLaws.{total-or, total-subset}
+use Rattle.row.specs.TestLaws.{or-left}
+use Rattle.row.specs.SumLaws.{total-or, total-subset}
 
 -- which flows cross
 
