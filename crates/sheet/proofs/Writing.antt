@@ -7,7 +7,7 @@ use native.Mathlib.Nat.{add-zero, zero-add}
 use native.Mathlib.Numerals.{add-one}
 use native.Mathlib.Omega.{arith}
 use lib.ListN.{length, getD, take, drop, set, length-append, drop-of-length-le}
-use lib.Seq.{sets, length-sets, sets-eq, take-suc}
+use lib.Seq.{sets, length-sets, sets-eq, take-suc, take-all}
 use borrow.Author.Tests.{lt-ltb, le-ltb}
 use Rattle.numbers.specs.Seven.{encode}
 use Rattle.numbers.specs.SevenLaws.{encode-few}
@@ -56,6 +56,22 @@ turn-listing {xs} {e} {i} {total} x next g t =
 pub finished-listing : {xs : List ℕ} {e : Seen} {i total : ℕ} → Listing xs e i total → stepOn (entryAt xs i) (length xs) i (ruleAt i e) ≡ End
     → Done total ≡ checked (listOf xs)
 finished-listing {xs} {e} {i} {total} g t = rw (finished (g .walking) t, g .count)
+
+-- the width of a list: the bytes of the numbers passed are counted
+pub record Counting (xs : List ℕ) (i total : ℕ) : Type 0 where
+  pub few : i ≤ length xs
+  pub count : total ≡ length (encodeAll (take i xs))
+  pub cap : total ≤ 5 * i
+
+pub begin-counting : (xs : List ℕ) → Counting xs 0 0
+begin-counting xs = record { few = omega arith; count = refl; cap = omega arith }
+
+pub turn-counting : {xs : List ℕ} {i total w : ℕ} → Counting xs i total → i < length xs → w ≡ length (encode (getD xs i 0)) → Counting xs (i + 1) (total + w)
+turn-counting {xs} {i} {total} {w} g h e =
+    record { few = omega arith; count = omega (arith, g .count, length-next xs i h); cap = omega (arith, g .cap, encode-few (getD xs i 0)) }
+
+pub counted : {xs : List ℕ} {i total : ℕ} → Counting xs i total → length xs ≤ i → total ≡ length (encodeAll xs)
+counted {xs} {i} {total} g h = g .count ∙ ap (λ (l : List ℕ). length (encodeAll l)) (take-all i xs h)
 
 -- the bytes: what is left to write is the bytes of the numbers from i on
 pub record Filling (first xs buf : List ℕ) (at i : ℕ) : Type 0 where

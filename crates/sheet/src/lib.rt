@@ -335,8 +335,22 @@ fn check_list(xs: &[u32]) -> Outcome
     }
 }
 
+// How many bytes a short list of numbers takes.
+pub fn list_width(xs: &[u32]) -> usize
+    requires { ⌜ length (now xs) ≤ 1000 ⌝ }
+    ensures { λ r. ⌜ r ≡ length (encodeAll (now (xs .entry))) ⌝ }
+{
+    let mut i: usize = 0;
+    let mut total: usize = 0;
+    while i < xs.len() {
+        total = total + numbers::width(xs[i]);
+        i = i + 1;
+    }
+    total
+}
+
 // Writes the bytes of a list of numbers over the front of a buffer that has room for them.
-fn put_all(xs: &[u32], buf: &mut [u8])
+pub fn put_all(xs: &[u32], buf: &mut [u8])
     requires { ⌜ length (encodeAll (now xs)) ≤ length (now buf) ⌝ }
     ensures { λ _. ⌜ now (buf .exit) ≡ sets (now (buf .entry)) 0 (encodeAll (now (xs .entry))) ⌝ }
 {

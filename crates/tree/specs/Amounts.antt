@@ -1,6 +1,6 @@
 -- What a stretch holds, added up: its servers' latencies, weights of its groups' flows, its groups' extras, and how many groups it has.
 -- Assumes nothing.
-use Prim.Native.Nat.{ℕ, suc, _+_}
+use Prim.Native.Nat.{ℕ, _+_}
 use mathlib.Core.List.{List, [], _∷_}
 use lib.ListN.{length}
 use Rattle.row.specs.Sums.{weigh, total}

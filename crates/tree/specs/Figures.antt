@@ -1,8 +1,8 @@
 -- The figures of document 01 that the definitions must give: P1 to P10, one statement over one table.
 -- Assumes nothing.
 use mathlib.Core.Path.{_≡_, refl}
-use mathlib.Core.Bool.{Bool, true, false}
-use mathlib.Core.List.{List, [], _∷_, _++_, map}
+use mathlib.Core.Bool.{true}
+use mathlib.Core.List.{List, [], _∷_, map}
 use Prim.Native.Nat.{ℕ}
 use Rattle.curves.specs.Curve.{server, neutral, joined, ceil, greatest, catchUp, leastWait, remainder, lateness, delay}
 use Rattle.row.specs.declared.Server.{Server}
@@ -12,7 +12,7 @@ use Rattle.row.specs.Tandem.{Tandem, size, crosses, on, bursts, rates}
 use Rattle.row.specs.Groups.{used, from, from-on, groups}
 use Rattle.row.specs.Checks.{overlaps, notNested, crowded, lowestCrowded}
 use Rattle.row.specs.OfSheet.{listed}
-use Rattle.tree.specs.Grid.{Answer, Found, stepsOf, pointsOf, better, foundOf}
+use Rattle.tree.specs.Grid.{stepsOf, pointsOf, better, foundOf}
 use Rattle.tree.specs.Stretch.{groupWait, afterGroup, curve}
 use Rattle.tree.specs.Tree.{walk, top, tree}
 use Rattle.tree.specs.Bound.{bound, waits, answerAt, searched}

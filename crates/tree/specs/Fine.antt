@@ -1,6 +1,6 @@
 -- When a node's numbers are in range: what the methods of a curve ask for, with room to spare.
 -- Assumes nothing.
-use Prim.Native.Nat.{ℕ, _+_, _≤_, _<_, _^_}
+use Prim.Native.Nat.{_+_, _≤_, _<_, _^_}
 use mathlib.Core.List.{List, [], _∷_}
 use lib.ListN.{length}
 use Rattle.curves.specs.Curve.{leastWait, All, Rates}

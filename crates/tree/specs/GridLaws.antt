@@ -2,18 +2,17 @@
 -- least delay; so it is never above start.
 -- Assumes nothing.
 use mathlib.Core.Path.{_≡_, refl, sym, ap, _∙_, subst}
-use mathlib.Core.Bool.{Bool, true, false, cond}
+use mathlib.Core.Bool.{true, false}
 use mathlib.Core.Logic.{_⊎_, inl, inr}
 use mathlib.Core.List.{List, [], _∷_, _++_, append-assoc, append-nil}
 use Prim.Native.Nat.{ℕ, zero, suc, _+_, _-_, _*_, _/_, _^_, _≤_, _<_}
 use native.Mathlib.Omega.{arith}
 use native.Mathlib.Nat.{zero-mul, zero-div, mul-le-mul-right, mul-comm, div-lt-iff-lt-mul, pow-zero, pow-suc}
-use lib.Dec.{ltb, eqb}
+use lib.Dec.{ltb}
 use lib.ListN.{length, getD, replicate, length-append}
 use borrow.Author.Tests.{ltb-true, ltb-false, le-ltb, ne-eqb}
-use Rattle.curves.specs.SlotsLaws.{le-or-lt}
 use Rattle.row.specs.OfSheet.{listed}
-use Rattle.tree.specs.Grid.{stepsOf, flat, pointsFrom, pointsOf, Answer, better, bestOf, Found, foundOf}
+use Rattle.tree.specs.Grid.{stepsOf, flat, pointsFrom, pointsOf, Answer, better, bestOf, foundOf}
 use Rattle.tree.specs.Searched.{Each, First, Low}
 use Rattle.row.specs.TestLaws.{decide}
 

@@ -1,26 +1,25 @@
 -- The root's curve in closed form is, at every slot, the function of slots that the tree means; so the bound is the least delay over that.
 -- Assumes nothing.
-use mathlib.Core.Path.{_≡_, refl, sym, ap, _∙_, fun-ext}
+use mathlib.Core.Path.{_≡_, ap, _∙_, fun-ext}
 use mathlib.Core.Bool.{Bool, true, false, _||_}
-use mathlib.Core.List.{List, [], _∷_}
-use Prim.Native.Nat.{ℕ, zero, suc, _+_, _≤_, _<_}
+use Prim.Native.Nat.{ℕ, _+_, _≤_, _<_}
 use native.Mathlib.Omega.{arith}
 use lib.Dec.{eqb}
 use lib.ListN.{length}
 use Rattle.curves.specs.Slots.{serve, conv, left, Covers, Least}
-use Rattle.curves.specs.Curve.{Shape, valueAt, neutral, joined, leastWait, remainder, Rates}
+use Rattle.curves.specs.Curve.{Shape, valueAt, joined, leastWait, remainder}
 use Rattle.curves.specs.Curve.{server as serverShape}
 use Rattle.curves.specs.StageLaws.{rates-weaken}
 use Rattle.curves.specs.CurveLaws.{server-is-serve}
 use Rattle.curves.specs.JoinLaws.{neutral-joined, join-is-conv}
 use Rattle.curves.specs.RemainderLaws.{remainder-is-left, remainder-length}
 use Rattle.curves.specs.DelayLaws.{delay-is-least}
-use Rattle.row.specs.Sums.{weigh, total}
+use Rattle.row.specs.Sums.{weigh}
 use Rattle.row.specs.Tandem.{Tandem, Path, size, server, flow, crosses, on, watched, bursts, rates}
-use Rattle.row.specs.Accepted.{Sound, Accepted}
+use Rattle.row.specs.Accepted.{Accepted}
 use Rattle.tree.specs.Stretch.{Stretch, none, then-server, then-group, span, groupWait, afterGroup, curve}
 use Rattle.tree.specs.Tree.{tree}
-use Rattle.tree.specs.Bound.{bound, extraOf, answerAt}
+use Rattle.tree.specs.Bound.{bound}
 use Rattle.tree.specs.Fits.{Fits}
 use Rattle.tree.specs.Meaning.{behind, meaning}
 use Rattle.row.specs.SumLaws.{total-at}
@@ -92,7 +91,7 @@ module _ (row : Tandem) (ok : Accepted row) (extra : ℕ → ℕ) where
   moves : 0 < flow row 0 .rate
   moves = ok .sound .moves 0 (ok .sound .some)
 
-  -- THE LAW: the root's curve is at every slot what the tree means
+  -- the main law: the root's curve is at every slot what the tree means
   pub root-is-meaning : (t : ℕ) → valueAt (curve row extra (tree row)) t ≡ meaning row extra (tree row) t
   root-is-meaning t =
       let fit = tree-fits row ok in

@@ -1,23 +1,20 @@
 -- The hypotheses of the laws can be met: P8's row, with a group inside a group, is accepted and within the limits.
 -- Assumes nothing.
 use mathlib.Core.Path.{_≡_, refl, sym, _∙_}
-use mathlib.Core.Bool.{Bool, true, false, true≢false}
+use mathlib.Core.Bool.{true, false, true≢false}
 use mathlib.Core.Logic.{_⊎_, inl, inr}
-use mathlib.Core.List.{List, [], _∷_}
+use mathlib.Core.List.{[], _∷_}
 use Prim.Native.Nat.{ℕ, zero, suc, _+_, _-_, _≤_, _<_, _^_}
 use native.Mathlib.Omega.{arith}
-use lib.Dec.{ltb, leb}
-use lib.ListN.{length, getD}
+use lib.ListN.{getD}
 use borrow.Author.Tests.{lt-ltb, le-leb}
 use Rattle.curves.specs.Slots.{Covers, Least}
 use Rattle.curves.specs.SlotsLaws.{le-or-lt}
-use Rattle.row.specs.declared.Server.{Server}
-use Rattle.row.specs.declared.Flow.{Flow}
 use Rattle.row.specs.Sums.{total, any}
-use Rattle.row.specs.Tandem.{Tandem, size, server, flow, crosses, on, rates}
+use Rattle.row.specs.Tandem.{server, flow, crosses, on, rates}
 use Rattle.row.specs.Groups.{used, from, from-on, groups, reads}
 use Rattle.row.specs.Checks.{overlaps, notNested}
-use Rattle.row.specs.Accepted.{Lies, Sound, Accepted, Limits}
+use Rattle.row.specs.Accepted.{Lies, Accepted, Limits}
 use Rattle.tree.specs.Plan.{plan}
 use Rattle.tree.specs.Tree.{tree}
 use Rattle.tree.specs.Bound.{bound, extraOf, answerAt}

@@ -4,16 +4,16 @@ use mathlib.Core.Path.{_≡_, refl, sym, ap, _∙_, subst, fun-ext}
 use mathlib.Core.Bool.{Bool, true, false, _||_, _&&_, not, true≢false, false≢true}
 use mathlib.Core.Logic.{_⊎_, inl, inr, _≢_}
 use mathlib.Core.List.{List, [], _∷_, _++_}
-use Prim.Native.Nat.{ℕ, zero, suc, _+_, _-_, _≤_, _<_}
+use Prim.Native.Nat.{ℕ, zero, suc, _+_, _≤_, _<_}
 use native.Mathlib.Omega.{arith}
 use lib.Dec.{ltb, eqb}
 use lib.ListN.{length}
 use borrow.Author.Tests.{ltb-true, lt-ltb, eqb-true, eq-eqb}
 use Rattle.curves.specs.SlotsLaws.{le-or-lt}
 use Rattle.row.specs.Sums.{any}
-use Rattle.row.specs.Tandem.{Tandem, Path, size, server, flow, crosses, on, watched, rates}
+use Rattle.row.specs.Tandem.{Tandem, Path, size, flow, crosses, on, watched}
 use Rattle.row.specs.Groups.{used, path, put, from, from-on, groups}
-use Rattle.row.specs.Accepted.{Lies, Sound, Accepted}
+use Rattle.row.specs.Accepted.{Lies, Accepted}
 use Rattle.tree.specs.Stretch.{Stretch, none, then-server, then-group, span}
 use Rattle.tree.specs.Tree.{Piece, single, whole, pick, walk, inside, top, tree}
 use Rattle.tree.specs.Fits.{Fits}
@@ -596,7 +596,7 @@ module _ (row : Tandem) (ok : Accepted row) where
   unfolding tree
   tree-whole = ap (λ (g : Path). inside row (top row 0 (groups row)) g) (λ d. record { first = ok .sound .enters d; last = ok .sound .leaves d })
 
-  -- THE LAW: the tree fits the row, for the watched flow, and spans it
+  -- the main law: the tree fits the row, for the watched flow, and spans it
   pub tree-fits : (Fits row watched 1 (tree row)) × (span (tree row) ≡ size row)
   unfolding Walked Goal Fits span Clean groups
   tree-fits =

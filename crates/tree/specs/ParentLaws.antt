@@ -1,27 +1,26 @@
 -- The tree of an accepted row is document 01's: each group stands in it once; its parent is the smallest group whose path contains its own,
 -- else the root; and the pieces of a node are the servers of its path that no child crosses, and its children.
 -- Assumes nothing.
-use mathlib.Core.Path.{_≡_, refl, sym, ap, _∙_, subst}
+use mathlib.Core.Path.{_≡_, refl, sym, _∙_, subst}
 use mathlib.Core.Bool.{Bool, true, false, _||_, true≢false}
 use mathlib.Core.Logic.{_⊎_, inl, inr}
-use mathlib.Core.List.{List}
-use Prim.Native.Nat.{ℕ, zero, suc, _+_, _-_, _≤_, _<_}
+use Prim.Native.Nat.{ℕ, suc, _+_, _-_, _≤_, _<_}
 use native.Mathlib.Omega.{arith}
 use lib.Dec.{eqb}
 use lib.ListN.{length, getD}
-use borrow.Author.Tests.{eqb-true, eq-eqb, ne-eqb}
+use borrow.Author.Tests.{eqb-true, eq-eqb}
 use Rattle.curves.specs.SlotsLaws.{le-or-lt}
 use Rattle.row.specs.Sums.{weigh, total}
 use Rattle.row.specs.Tandem.{Tandem, Path, size, flow, crosses, on, watched}
 use Rattle.row.specs.Groups.{path, groups}
-use Rattle.row.specs.Accepted.{Sound, Accepted}
+use Rattle.row.specs.Accepted.{Accepted}
 use Rattle.tree.specs.Stretch.{Stretch, none, then-server, then-group, span}
 use Rattle.tree.specs.Tree.{tree}
 use Rattle.tree.specs.Fits.{Fits}
 use Rattle.tree.specs.Amounts.{weights}
 use Rattle.tree.specs.Stands.{In, Child, Alone, times, Contains, Parent, Outermost, Pieces}
-use Rattle.row.specs.TestLaws.{or-left, or-right, or-cases, decide, not-passed}
-use Rattle.row.specs.SumLaws.{total-at, total-mono}
+use Rattle.row.specs.TestLaws.{or-left, or-right, decide}
+use Rattle.row.specs.SumLaws.{total-at}
 use Rattle.row.specs.TandemLaws.{on-is, is-on, crosses-is, is-crosses}
 use Rattle.tree.specs.NestedLaws.{order-groups, tree-fits}
 use Rattle.tree.specs.StretchLaws.{spans}

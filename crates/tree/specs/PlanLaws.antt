@@ -1,21 +1,20 @@
 -- The nodes as a program works them out are those of document 01's tree: the root's curve is the tree's, and the waits are the groups'.
 -- Assumes nothing.
-use mathlib.Core.Path.{_≡_, refl, sym, ap, _∙_}
+use mathlib.Core.Path.{_≡_, refl, ap, _∙_}
 use mathlib.Core.Bool.{Bool, true, false, cond}
-use mathlib.Core.List.{List, [], _∷_, _++_, map}
-use Prim.Native.Nat.{ℕ, zero, suc, _+_, _≤_}
+use mathlib.Core.List.{List, [], _∷_, map}
+use Prim.Native.Nat.{ℕ, zero, suc, _+_}
 use native.Mathlib.Omega.{arith}
 use lib.Dec.{ltb, eqb}
-use lib.ListN.{length, getD}
-use Rattle.curves.specs.Curve.{Shape, neutral, joined, remainder}
+use lib.ListN.{length}
+use Rattle.curves.specs.Curve.{Shape, neutral}
 use Rattle.curves.specs.Curve.{server as serverShape}
 use Rattle.curves.specs.JoinLaws.{joined-length}
 use Rattle.curves.specs.RemainderLaws.{remainder-length}
 use Rattle.row.specs.declared.Flow.{Flow}
 use Rattle.row.specs.Tandem.{Tandem, Path, size, server, flow, on, bursts, rates}
 use Rattle.row.specs.Groups.{path, groups, grouped, reads}
-use Rattle.tree.specs.Plan.{Node, Top, alone, over, topOf, serverCurve, pieceOn, along, nodeCurve, nodeOf, headOf, tailOf, plan}
-use Rattle.tree.specs.Grid.{Answer}
+use Rattle.tree.specs.Plan.{Top, alone, over, topOf, pieceOn, along, nodeCurve, nodeOf, headOf, tailOf, plan}
 use Rattle.tree.specs.Stretch.{Stretch, none, then-server, then-group, span, groupWait, afterGroup, curve}
 use Rattle.tree.specs.Tree.{Piece, single, whole, pick, oneMore, walk, inside, top, tree}
 use Rattle.tree.specs.Bound.{bound, waits, extraOf, answerAt}
@@ -100,7 +99,7 @@ module _ (row : Tandem) (extra : ℕ → ℕ) where
       let r = remainder-length (curve row extra q) (bursts row (on row g)) (rates row (on row g)) (groupWait row g (curve row extra q) (extra k)) in
       omega (arith, joined-length (curve row extra p) c, r, stage-count p, stage-count q)
 
--- THE LAW: the program's nodes are the tree's, the root first
+-- the main law: the program's nodes are the tree's, the root first
 pub plan-is-tree : (row : Tandem) (es : List ℕ) → plan (row .servers) (reads row) (0 ∷ es) ≡ treeNodes row es
 unfolding plan reads treeNodes tree
 plan-is-tree row es =

@@ -4,14 +4,14 @@
 use mathlib.Core.Path.{_≡_, refl, sym, ap, _∙_, subst}
 use mathlib.Core.Bool.{Bool, true, false, _||_, true≢false}
 use mathlib.Core.Logic.{_⊎_, inl, inr}
-use mathlib.Core.List.{List, [], _∷_, _++_, map}
+use mathlib.Core.List.{List, [], _∷_, map}
 use Prim.Native.Nat.{ℕ, zero, suc, _+_, _-_, _≤_, _<_}
 use native.Mathlib.Nat.{add-zero, add-suc}
 use native.Mathlib.Omega.{arith}
 use lib.Dec.{ltb, eqb}
 use lib.ListN.{length, getD, drop}
 use borrow.Author.Tests.{eqb-true, eq-eqb, ne-eqb}
-use Rattle.curves.specs.Curve.{Shape, joined, leastWait, remainder, delay}
+use Rattle.curves.specs.Curve.{Shape, joined, remainder, delay}
 use Rattle.curves.specs.SlotsLaws.{le-or-lt}
 use Rattle.curves.specs.CurveLaws.{wait-after-offset}
 use Rattle.curves.specs.DelayLaws.{delay-after-offset}
@@ -19,14 +19,14 @@ use Rattle.row.specs.declared.Server.{Server}
 use Rattle.row.specs.Sums.{weigh, total}
 use Rattle.row.specs.Tandem.{Tandem, Path, size, server, flow, crosses, on, watched, bursts}
 use Rattle.row.specs.Groups.{path, groups}
-use Rattle.row.specs.Accepted.{Sound, Accepted}
+use Rattle.row.specs.Accepted.{Accepted}
 use Rattle.tree.specs.Stretch.{Stretch, none, then-server, then-group, span, groupWait, afterGroup, curve}
 use Rattle.tree.specs.Tree.{Piece, single, whole, pick, oneMore, walk, inside, top, tree}
 use Rattle.tree.specs.Bound.{bound, waits, extraOf, answerAt}
 use Rattle.tree.specs.Fits.{Fits}
 use Rattle.tree.specs.Amounts.{latencies, extras, sumOf}
 use Rattle.tree.specs.Stands.{In, numbered}
-use Rattle.row.specs.TestLaws.{or-left, or-right, or-cases, decide, not-passed}
+use Rattle.row.specs.TestLaws.{or-left, or-right, decide, not-passed}
 use Rattle.row.specs.SumLaws.{total-mono, total-add, total-same, total-zero, total-front}
 use Rattle.row.specs.TandemLaws.{on-is, is-crosses}
 use Rattle.tree.specs.NestedLaws.{Order, later, order-groups, tree-fits}
@@ -338,7 +338,7 @@ module _ (row : Tandem) (ok : Accepted row) where
       ap (λ (x : ℕ). total x (λ m. server row (1 + m) .latency)) (fit .1) in
       omega (arith, latencies-are row watched 1 (tree row) (fit .0), n, e, sum-latencies (row .servers))
 
-  -- THE LAW: at every point the delay is at least the latencies of all servers and the extras of all groups, added up
+  -- the main law: at every point the delay is at least the latencies of all servers and the extras of all groups, added up
   pub delay-ge-sum : (es : List ℕ) → length es ≡ length (groups row) → sumOf (latenciesOf (row .servers)) + sumOf es ≤ answerAt row es .delay
   unfolding answerAt bound
   delay-ge-sum es h =

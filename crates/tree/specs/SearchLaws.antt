@@ -1,6 +1,6 @@
 -- The search of an accepted row within the limits: every point of its grid is in range for the code, and its numbers are small.
 -- Assumes nothing.
-use mathlib.Core.Path.{_≡_, refl, sym, ap, _∙_}
+use mathlib.Core.Path.{_≡_, refl, ap}
 use mathlib.Core.Bool.{true}
 use mathlib.Core.Logic.{_⊎_, inl, inr}
 use mathlib.Core.List.{List, [], _∷_, map}
@@ -10,11 +10,10 @@ use lib.ListN.{length, getD, replicate}
 use Rattle.curves.specs.SlotsLaws.{le-or-lt}
 use Rattle.row.specs.Tandem.{Tandem, Path, size, on}
 use Rattle.row.specs.Groups.{groups, grouped, reads}
-use Rattle.row.specs.Accepted.{Sound, Accepted, Limits}
+use Rattle.row.specs.Accepted.{Accepted, Limits}
 use Rattle.tree.specs.Plan.{plan}
-use Rattle.tree.specs.Grid.{stepsOf, pointsOf, Answer, Found, foundOf}
-use Rattle.tree.specs.Bound.{bound, waits, extraOf, answerAt, searched}
-use Rattle.tree.specs.Tree.{tree}
+use Rattle.tree.specs.Grid.{stepsOf, pointsOf, foundOf}
+use Rattle.tree.specs.Bound.{waits, extraOf, answerAt, searched}
 use Rattle.tree.specs.Amounts.{sumOf}
 use Rattle.tree.specs.Fine.{AllFine}
 use Rattle.tree.specs.Searched.{Each, First, Low}
@@ -22,7 +21,7 @@ use Rattle.row.specs.TandemLaws.{on-is}
 use Rattle.tree.specs.NestedLaws.{Order, order-groups}
 use Rattle.tree.specs.SizeLaws.{start-small, plan-fine}
 use Rattle.tree.specs.PruneLaws.{latenciesOf, wait-le-delay, delay-ge-sum}
-use Rattle.tree.specs.GridLaws.{each-map, points-low, search-first, found-at, found-le-start, start-is}
+use Rattle.tree.specs.GridLaws.{each-map, points-low, search-first, found-at, found-le-start}
 
 waits-length : (row : Tandem) (extra : ℕ → ℕ) (gs : List Path) (k : ℕ) → length (waits row extra k gs) ≡ length gs
 unfolding waits

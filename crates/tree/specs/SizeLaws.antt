@@ -1,35 +1,35 @@
 -- How large the numbers of an analysis can get, on rows within the limits: every node's curve, wait and delay is in range for the code.
 -- Assumes nothing.
-use mathlib.Core.Path.{_≡_, refl, sym, ap, _∙_, subst}
+use mathlib.Core.Path.{_≡_, refl, sym, _∙_}
 use mathlib.Core.Bool.{Bool, true, false, not, _||_, _&&_, true≢false, false≢true}
 use mathlib.Core.Logic.{_⊎_, inl, inr}
-use mathlib.Core.List.{List, [], _∷_, _++_, map}
-use Prim.Native.Nat.{ℕ, zero, suc, _+_, _*_, _-_, _≤_, _<_, _^_}
+use mathlib.Core.List.{List, [], _∷_, map}
+use Prim.Native.Nat.{ℕ, zero, suc, _+_, _*_, _≤_, _<_, _^_}
 use native.Mathlib.Omega.{arith}
-use native.Mathlib.Nat.{mul-le-mul-left, mul-le-mul-right}
+use native.Mathlib.Nat.{mul-le-mul-right}
 use lib.Dec.{leb, ltb, eqb}
 use lib.ListN.{length, getD, replicate}
 use borrow.Author.Tests.{le-leb, lt-ltb, leb-true, ltb-true}
 use Rattle.curves.specs.declared.Stage.{Stage}
-use Rattle.curves.specs.Curve.{Shape, leastWait, delay, All, Rates}
+use Rattle.curves.specs.Curve.{leastWait, delay, All, Rates}
 use Rattle.curves.specs.Held.{Live}
 use Rattle.curves.specs.StageLaws.{all-both, rates-weaken}
 use Rattle.curves.specs.RemainderLaws.{remainder-offset, remainder-length}
 use Rattle.row.specs.declared.Flow.{Flow}
 use Rattle.row.specs.Sums.{weigh, total}
-use Rattle.row.specs.Tandem.{Tandem, Path, size, server, flow, crosses, on, watched, bursts, rates}
+use Rattle.row.specs.Tandem.{Tandem, Path, size, flow, crosses, on, watched, bursts, rates}
 use Rattle.row.specs.Groups.{groups, grouped, reads}
-use Rattle.row.specs.Accepted.{Sound, Accepted, Limits}
-use Rattle.tree.specs.Plan.{Node, nodeOf, plan}
+use Rattle.row.specs.Accepted.{Accepted, Limits}
+use Rattle.tree.specs.Plan.{nodeOf, plan}
 use Rattle.tree.specs.Stretch.{Stretch, none, then-server, then-group, span, curve}
 use Rattle.tree.specs.Tree.{inside, top, tree}
 use Rattle.tree.specs.Bound.{bound, extraOf, answerAt}
 use Rattle.tree.specs.Planned.{nodesOf, treeNodes}
 use Rattle.tree.specs.Fits.{Fits}
-use Rattle.tree.specs.Amounts.{latencies, weights, extras, count}
+use Rattle.tree.specs.Amounts.{weights, count}
 use Rattle.tree.specs.Fine.{Fine, AllFine}
 use Rattle.row.specs.TestLaws.{or-cases, both-true, not-passed}
-use Rattle.row.specs.SumLaws.{total-at, total-or, total-mono, total-subset}
+use Rattle.row.specs.SumLaws.{total-at, total-or, total-subset}
 use Rattle.row.specs.TandemLaws.{on-is, is-crosses}
 use Rattle.tree.specs.PlanLaws.{plan-is-tree, stage-count}
 use Rattle.tree.specs.NestedLaws.{Order, Outer, outside, order-groups, outer-all, outer-tail, tree-fits, node-fits, own-outside}
@@ -298,7 +298,7 @@ module _ (row : Tandem) (ok : Accepted row) (limits : Limits row) where
         (omega (arith, total-at (length (row .flows)) 0 (λ f. flow row f .burst) (ok .sound .some), limits .small-bursts))
         watched-rate-small (omega arith)
 
-  -- THE LAW: at a point whose extras are below 2^30, the nodes that the program works out are in range
+  -- the main law: at a point whose extras are below 2^30, the nodes that the program works out are in range
   pub plan-fine : (es : List ℕ) → ((k : ℕ) → getD es k 0 < 2 ^ 30) → AllFine (plan (row .servers) (reads row) (0 ∷ es)) (reads row)
   unfolding reads treeNodes
   plan-fine es low =

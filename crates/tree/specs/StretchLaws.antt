@@ -1,10 +1,10 @@
 -- Laws of stretches that fit a row: which flows cross them, the room that their stages have, and their offsets and bursts.
 -- Assumes nothing.
-use mathlib.Core.Path.{_≡_, refl, sym, ap, _∙_}
+use mathlib.Core.Path.{_≡_, sym, _∙_}
 use mathlib.Core.Bool.{Bool, true, false, _||_}
 use mathlib.Core.Logic.{_⊎_, inl, inr}
 use mathlib.Core.List.{List, [], _∷_, _++_, append-assoc, append-nil}
-use Prim.Native.Nat.{ℕ, zero, suc, _+_, _*_, _-_, _≤_, _<_, max}
+use Prim.Native.Nat.{ℕ, zero, suc, _+_, _*_, _-_, _≤_, _<_}
 use native.Mathlib.Omega.{arith}
 use native.Mathlib.Nat.{mul-le-mul-left, mul-le-mul-right, div-lt-iff-lt-mul, div-zero}
 use lib.Dec.{ltb}
@@ -14,7 +14,7 @@ use Rattle.curves.specs.Curve.{Shape, neutral, joined, ceil, greatest, catchUp,
 use Rattle.curves.specs.Curve.{server as serverShape}
 use Rattle.curves.specs.SlotsLaws.{le-or-lt}
 use Rattle.curves.specs.StageLaws.{all-weaken, all-append, rates-weaken}
-use Rattle.curves.specs.JoinLaws.{joined-all, joined-rates}
+use Rattle.curves.specs.JoinLaws.{joined-rates}
 use Rattle.curves.specs.RemainderLaws.{remainder-all, remainder-rates}
 use Rattle.row.specs.declared.Server.{Server}
 use Rattle.row.specs.Tandem.{Tandem, size, server, flow, crosses, on, bursts, rates}
