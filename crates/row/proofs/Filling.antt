@@ -4,16 +4,13 @@ use mathlib.Core.Path.{_≡_, sym, ap, _∙_}
 use mathlib.Core.List.{List, [], _∷_, _++_, append-assoc}
 use Prim.Native.Nat.{ℕ, suc, _+_, _-_, _≤_, _<_}
 use native.Mathlib.Omega.{arith}
-use lib.ListN.{length, set, replicate, length-append, length-replicate}
+use lib.ListN.{length, set, replicate, length-append}
 use lib.Seq.{set-append-seam}
 use native.Mathlib.Numerals.{add-one}
 use Rattle.row.specs.OfSheet.{listed, padded}
 use Rattle.row.specs.OfSheetLaws.{length-listed}
 
 module _ {B : Type 0} (n : ℕ) (z : B) (l : List B) where
-  pub padded-length : length l ≤ n → length (padded n z l) ≡ n
-  padded-length h = omega (arith, length-append l (replicate (n - length l) z), length-replicate (n - length l) z)
-
   pub padded-more : (x : B) → length l < n → set (padded n z l) (length l) x ≡ padded n z (l ++ (x ∷ []))
   padded-more x h =
       let k = n - (length l + 1) in

@@ -2,10 +2,10 @@
 -- A path is some cross flow's exactly if its rates add up to more than 0, for every rate is at least 1.
 -- Assumes nothing.
 use mathlib.Core.Path.{_≡_, refl, sym, ap, _∙_}
-use mathlib.Core.Bool.{Bool, true, false, true≢false}
+use mathlib.Core.Bool.{Bool, true, false}
 use mathlib.Core.Logic.{_⊎_, inl, inr}
 use mathlib.Core.List.{List, [], _∷_, _++_, map, append-assoc, append-nil}
-use Prim.Native.Nat.{ℕ, zero, suc, _+_, _-_, _/_, _%_, _≤_, _<_}
+use Prim.Native.Nat.{ℕ, suc, _+_, _-_, _/_, _%_, _≤_, _<_}
 use native.Mathlib.Numerals.{add-one}
 use native.Mathlib.Omega.{arith}
 use lib.ListN.{length, getD, set, replicate, length-append, length-map}
@@ -21,7 +21,7 @@ use Rattle.row.specs.Parts.{pathAt, placed, Summed}
 use Rattle.sheet.specs.Valid.{Valid}
 use Rattle.row.specs.OfSheet.{tandemOf}
 use Rattle.row.specs.OfSheetLaws.{row-size, ranged}
-use Rattle.row.proofs.Filling.{padded-length, padded-more}
+use Rattle.row.proofs.Filling.{padded-more}
 use Rattle.row.proofs.Placing.{placed-groups}
 
 abbrev pub blank : Flow

@@ -3,11 +3,11 @@
 use mathlib.Core.Path.{_≡_, refl, sym, ap, _∙_}
 use mathlib.Core.Bool.{Bool, true, false}
 use mathlib.Core.Logic.{_⊎_, inl, inr}
-use mathlib.Core.List.{List, [], _∷_, _++_, append-assoc, append-nil}
+use mathlib.Core.List.{List, [], _++_}
 use Prim.Native.Nat.{ℕ, zero, suc, _+_, _-_, _*_, _/_, _%_, _≤_, _<_}
 use native.Mathlib.Omega.{arith}
 use lib.ListN.{length}
-use Rattle.row.specs.Tandem.{Tandem, Path, size, flow, on}
+use Rattle.row.specs.Tandem.{Tandem, Path, size, on}
 use Rattle.row.specs.Groups.{used, path, put, from, from-on, groups}
 use Rattle.row.specs.Alike.{Inside}
 use Rattle.row.specs.TestLaws.{not-passed, le-or-lt}

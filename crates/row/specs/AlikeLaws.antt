@@ -2,9 +2,9 @@
 -- checks 6, 7 and 8. The rates at a server are the watched flow's and, path by path, the sums of the paths that have the server.
 -- Assumes nothing.
 use mathlib.Core.Path.{_≡_, refl, sym, ap, _∙_, subst}
-use mathlib.Core.Bool.{Bool, true, false, _||_, _&&_, true≢false, cond}
-use mathlib.Core.List.{List, [], _∷_, _++_, map}
-use Prim.Native.Nat.{ℕ, zero, suc, _+_, _-_, _^_, _≤_, _<_}
+use mathlib.Core.Bool.{Bool, true, false, _&&_, true≢false}
+use mathlib.Core.List.{List, [], _∷_, map}
+use Prim.Native.Nat.{ℕ, zero, suc, _+_, _-_, _<_}
 use native.Mathlib.Omega.{arith}
 use lib.Dec.{leb, ltb, eqb}
 use lib.ListN.{length, getD}
@@ -12,8 +12,8 @@ use borrow.Author.Tests.{lt-ltb, ltb-true, le-leb, leb-true, eq-eqb, eqb-true}
 use Rattle.row.specs.declared.Server.{Server}
 use Rattle.row.specs.declared.Flow.{Flow}
 use Rattle.row.specs.Sums.{weigh, total, any}
-use Rattle.row.specs.Tandem.{Tandem, Path, size, server, flow, crosses, on, bursts, rates}
-use Rattle.row.specs.Groups.{used, path, put, from, from-on, groups, grouped, reads}
+use Rattle.row.specs.Tandem.{Tandem, Path, size, server, flow, crosses, on, rates}
+use Rattle.row.specs.Groups.{used, path, from, from-on, groups, grouped, reads}
 use Rattle.row.specs.Checks.{overlaps, notNested, crowded, lowestCrowded, tooMany}
 use Rattle.row.specs.Alike.{Alike, Inside}
 use Rattle.row.specs.TestLaws.{not-passed, both-true, true-both, same-test}

@@ -1,13 +1,13 @@
 -- Refusals 6, 7 and 8 are what their sentences say; and a row in range that passes 6 and 7 is accepted.
 -- Assumes nothing.
 use mathlib.Core.Path.{_≡_, refl, sym, ap, _∙_}
-use mathlib.Core.Bool.{Bool, true, false, cond, _&&_, true≢false, false≢true}
+use mathlib.Core.Bool.{Bool, true, false, cond, _&&_, true≢false}
 use mathlib.Core.Logic.{_⊎_, inl, inr}
 use Prim.Native.Nat.{ℕ, zero, suc, _+_, _^_, _≤_, _<_}
 use native.Mathlib.Omega.{arith}
 use lib.Dec.{leb, ltb, eqb}
 use lib.ListN.{length}
-use borrow.Author.Tests.{lt-ltb, ltb-true, ltb-false, le-ltb, le-leb, leb-true, eq-eqb, eqb-true}
+use borrow.Author.Tests.{lt-ltb, ltb-true, ltb-false, le-leb, leb-true, eq-eqb, eqb-true}
 use Rattle.row.specs.Sums.{any}
 use Rattle.row.specs.Tandem.{Tandem, size, server, flow, crosses, rates}
 use Rattle.row.specs.Groups.{groups}
@@ -15,7 +15,7 @@ use Rattle.row.specs.Accepted.{Lies, Sound, Accepted}
 use Rattle.row.specs.Sentences.{Crossed, Crowds, Lowest}
 use Rattle.row.specs.Checks.{overlaps, notNested, crowded, lowestCrowded, tooMany}
 use Rattle.row.specs.TestLaws.{not-passed, both-true, true-both, le-or-lt}
-use Rattle.row.specs.SumLaws.{any-at, any-found, none-of}
+use Rattle.row.specs.SumLaws.{any-at, any-found}
 
 -- 6
 pub not-nested-crossed : (row : Tandem) → notNested row ≡ true → Crossed row
@@ -105,6 +105,9 @@ none-found row (suc n) i h j a b = go (crowded row (suc i)) refl (none-found row
 
 pub none-crowded : (row : Tandem) → lowestCrowded row 1 (size row) ≡ 0 → (j : ℕ) → 0 < j → j ≤ size row → crowded row j ≡ false
 none-crowded row h j a b = none-found row (size row) 0 h j (omega arith) (omega arith)
+
+pub none-crowds : (row : Tandem) → lowestCrowded row 1 (size row) ≡ 0 → (j : ℕ) → 0 < j → j ≤ size row → Crowds row j → ⊥
+none-crowds row h j a b c = true≢false (sym (crowds-crowded row j c) ∙ none-crowded row h j a b)
 
 pub crowded-none : (row : Tandem) → ((j : ℕ) → 0 < j → j ≤ size row → Crowds row j → ⊥) → lowestCrowded row 1 (size row) ≡ 0
 crowded-none row h = go (le-or-lt (lowestCrowded row 1 (size row)) 0)

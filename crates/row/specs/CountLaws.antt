@@ -5,14 +5,13 @@
 use mathlib.Core.Path.{_≡_, refl, sym, ap, _∙_}
 use mathlib.Core.Bool.{Bool, true, false, _&&_, true≢false}
 use mathlib.Core.Logic.{_⊎_, inl, inr}
-use mathlib.Core.List.{List}
 use Prim.Native.Nat.{ℕ, zero, suc, _+_, _*_, _-_, _≤_, _<_}
 use native.Mathlib.Omega.{arith}
 use lib.Dec.{ltb, eqb}
 use lib.ListN.{length, length-append}
 use borrow.Author.Tests.{lt-ltb, ltb-true, eq-eqb}
 use Rattle.row.specs.Sums.{weigh, total, any}
-use Rattle.row.specs.Tandem.{Tandem, Path, size, flow, on}
+use Rattle.row.specs.Tandem.{Tandem, size, flow, on}
 use Rattle.row.specs.Groups.{used, path, put, from, from-on, groups}
 use Rattle.row.specs.Accepted.{Accepted, Limits}
 use Rattle.row.specs.TestLaws.{not-passed, both-true, true-both, decide, le-or-lt}

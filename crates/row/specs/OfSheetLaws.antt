@@ -1,23 +1,19 @@
 -- The row of a valid sheet: its parts by number, its ranges, and that a row that passes the checks is accepted and within the limits.
 -- Assumes nothing.
 use mathlib.Core.Path.{_≡_, refl, sym, ap, _∙_}
-use mathlib.Core.Bool.{Bool, true, false, cond, true≢false}
+use mathlib.Core.Bool.{Bool, true, false, cond}
 use mathlib.Core.Logic.{_⊎_, inl, inr}
 use mathlib.Core.List.{List, [], _∷_, _++_}
-use Prim.Native.Nat.{ℕ, zero, suc, _+_, _-_, _*_, _≤_, _<_}
+use Prim.Native.Nat.{ℕ, zero, suc, _+_, _-_, _≤_, _<_}
 use native.Mathlib.Omega.{arith}
-use lib.Dec.{ltb, eqb}
+use lib.Dec.{ltb}
 use lib.ListN.{length, getD, length-append, List·getD-append, List·getD-eq-default}
 use lib.Seq.{getD-at}
 use borrow.Author.Tests.{lt-ltb, ltb-false}
-use Rattle.sheet.specs.Valid.{Valid, Within, serverCount, serverRate, serverLatency, flowCount, flowFirst, flowLast, flowBurst, flowRate, watchedBurst, watchedRate, mode, grid}
-use Rattle.row.specs.declared.Server.{Server}
-use Rattle.row.specs.declared.Flow.{Flow}
-use Rattle.row.specs.declared.Check.{Check}
+use Rattle.sheet.specs.Valid.{Valid, serverCount, flowCount, mode, grid}
 use Rattle.row.specs.declared.Check.the-variants.{Passed, Crossing, Crowded, Points}
-use Rattle.row.specs.Sums.{total}
-use Rattle.row.specs.Tandem.{Tandem, size, server, flow}
-use Rattle.row.specs.Groups.{groups, reads}
+use Rattle.row.specs.Tandem.{size, server, flow}
+use Rattle.row.specs.Groups.{groups}
 use Rattle.row.specs.Checks.{notNested, lowestCrowded, tooMany}
 use Rattle.row.specs.Accepted.{Lies, Sound, Accepted, Limits}
 use Rattle.row.specs.OfSheet.{listed, serverOf, flowOf, watchedOf, tandemOf, gridOf, checkOf}

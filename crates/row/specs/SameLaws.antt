@@ -1,14 +1,13 @@
 -- A row reads cross flows only through the groups' paths and sums: two valid sheets with the same servers, watched flow, mode and g, and with the
 -- same sums of each path, give the same row and the same outcome of the checks, whatever their single flows are.
 -- Assumes nothing.
-use mathlib.Core.Path.{_≡_, refl, sym, ap, _∙_}
+use mathlib.Core.Path.{_≡_, sym, ap, _∙_}
 use mathlib.Core.List.{List}
-use Prim.Native.Nat.{ℕ, _≤_, _<_}
+use Prim.Native.Nat.{ℕ}
 use native.Mathlib.Omega.{arith}
 use lib.ListN.{length}
 use Rattle.sheet.specs.Valid.{Valid, serverCount, mode, grid}
-use Rattle.row.specs.Tandem.{Tandem, size, flow}
-use Rattle.row.specs.Checks.{notNested, lowestCrowded, tooMany}
+use Rattle.row.specs.Tandem.{size}
 use Rattle.row.specs.OfSheet.{tandemOf, gridOf, checkOf, rowOf, formedOf}
 use Rattle.row.specs.Alike.{Alike, Inside}
 use Rattle.row.specs.OfSheetLaws.{row-size, ranged}

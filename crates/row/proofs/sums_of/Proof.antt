@@ -6,10 +6,10 @@ use Prim.Native.Nat.{_<_, _≤_, _-_}
 use native.Mathlib.Omega.{arith}
 use lib.ListN.{length}
 use borrow.Author.Needs.{needs}
-use Rattle.row.specs.OfSheetLaws.{row-flows, ranged}
+use Rattle.row.specs.OfSheetLaws.{row-flows}
 use Rattle.row.specs.OfSheet.{tandemOf}
 use Rattle.row.specs.Parts.{Summed}
-use Rattle.row.proofs.Summing.{ranges, small-amount, begin-sums, small-sum, place-small, turn-sums}
+use Rattle.row.proofs.Summing.{Adding, ranges, small-amount, begin-sums, small-sum, place-small, turn-sums}
 use Rattle.row.proofs.sums_of.Statement.{statement}
 use Rattle.row.proofs.sums_of.Tie as tie
 
@@ -23,25 +23,32 @@ flow-total-requires : tie.Need-flow-total-requires Inv-loop μ-loop
 flow-total-requires c κs = search needs
 
 loop-holds : tie.Need-loop-holds Inv-loop μ-loop
-loop-holds c = (omega arith, omega (arith, c .flow-total .ensures .0, row-flows (c .before .before .args .numbers .now)), begin-sums _ (c .before .before .pre) _)
+loop-holds c = (omega arith, omega (arith, c .flow-total .ensures .0, row-flows (c .before .before .args .numbers .now)), begin-sums _ _)
 
 flow-at-requires : tie.Need-flow-at-requires Inv-loop μ-loop
 flow-at-requires c κs = (c .before .before .before .before .pre, omega (arith, c .before .before .flow-total .ensures .0))
 
--- a path's number is below 256
-place : (c : tie.After-place-of Inv-loop μ-loop) → c .place-of .result < 256
-place c = let xs = c .before .before .before .before .before .before .args .numbers .now in
-    let r = place-small xs (c .before .before .before .before .before .before .pre) (c .before .before .before .before .before .before .args .rates) (c .before .before .before .loop .f) (c .before .before .before .loop .sums) (c .before .before .before .loop .inv .2) (c .before .before .before .loop .inv .0) (omega (arith, c .before .before .before .before .flow-total .ensures .0)) _ (c .before .flow-at .ensures) in
-    rw (c .place-of .ensures) r
+-- where the loop stands
+adding : (c : tie.After-flow-at Inv-loop μ-loop)
+    → Adding (c .before .before .before .before .before .args .numbers .now) (c .before .before .before .before .before .args .rates) (c .before .before .loop .f) (c .before .before .loop .sums) (c .flow-at .result)
+adding c =
+    record {
+      sheet = c .before .before .before .before .before .pre;
+      summed = c .before .before .loop .inv .2;
+      some = c .before .before .loop .inv .0;
+      here = omega (arith, c .before .before .before .flow-total .ensures .0);
+      is = c .flow-at .ensures;
+    }
 
 place-of-requires : tie.Need-place-of-requires Inv-loop μ-loop
-place-of-requires c κs = let xs = c .before .before .before .before .before .args .numbers .now in
-    let r = ranges xs (c .before .before .before .before .before .pre) (c .before .before .before .before .before .args .rates) (c .before .before .loop .f) (c .before .before .loop .sums) (c .before .before .loop .inv .2) (c .before .before .loop .inv .0) (omega (arith, c .before .before .before .flow-total .ensures .0)) _ (c .flow-at .ensures) in (
-      r .begins,
-      omega (arith, r .path, r .ends, c .before .before .before .before .before .pre .servers .most),
-      omega (arith, r .begins, r .path),
-      omega (arith, r .ends, c .before .before .before .before .before .pre .servers .most),
-    )
+place-of-requires c κs =
+    let r = ranges (adding c) in
+    let n = c .before .before .before .before .before .pre .servers .most in
+    (r .begins, omega (arith, r .path, r .ends, n), omega (arith, r .begins, r .path), omega (arith, r .ends, n))
+
+-- a path's number is below 256
+place : (c : tie.After-place-of Inv-loop μ-loop) → c .place-of .result < 256
+place c = rw (c .place-of .ensures) (place-small (adding (c .before)))
 
 mul-sums : tie.Need-mul-sums Inv-loop μ-loop
 mul-sums c = omega (arith, place c)
@@ -53,9 +60,10 @@ amount-of-requires : tie.Need-amount-of-requires Inv-loop μ-loop
 amount-of-requires c κs = search needs
 
 add-sums : tie.Need-add-sums Inv-loop μ-loop
-add-sums c = let xs = c .before .before .before .before .before .before .before .args .numbers .now in
-    let s = small-sum xs (c .before .before .before .before .before .before .before .pre) (c .before .before .before .before .before .before .before .args .rates) (c .before .before .before .before .loop .f) (c .before .before .before .before .loop .sums) (c .before .before .before .before .loop .inv .2) (omega (arith, c .before .before .before .before .before .flow-total .ensures .0)) (omega (arith, c .before .before .before .before .before .flow-total .ensures .0, c .before .before .before .before .before .flow-total .ensures .1)) (c .before .place-of .result) (place (c .before)) in
-    let a = small-amount xs (c .before .before .before .before .before .before .before .pre) (c .before .before .before .before .before .before .before .args .rates) (c .before .before .before .before .loop .f) (c .before .before .before .before .loop .sums) (c .before .before .before .before .loop .inv .2) (c .before .before .before .before .loop .inv .0) (omega (arith, c .before .before .before .before .before .flow-total .ensures .0)) _ (c .before .before .flow-at .ensures) in
+add-sums c =
+    let d = adding (c .before .before) in
+    let s = small-sum d (c .before .place-of .result) (place (c .before)) in
+    let a = small-amount d in
     omega (arith, s, a, c .amount-of .ensures)
 
 mul-sums-2 : tie.Need-mul-sums-2 Inv-loop μ-loop
@@ -71,9 +79,7 @@ loop-less : tie.Need-loop-less Inv-loop μ-loop
 loop-less c = search needs
 
 loop-again : tie.Need-loop-again Inv-loop μ-loop
-loop-again c = let xs = c .before .before .before .before .before .before .before .args .numbers .now in
-    let r = turn-sums xs (c .before .before .before .before .before .before .before .pre) (c .before .before .before .before .before .before .before .args .rates) (c .before .before .before .before .loop .f) (c .before .before .before .before .loop .sums) (c .before .before .before .before .loop .inv .2) (c .before .before .before .before .loop .inv .0) (omega (arith, c .before .before .before .before .before .flow-total .ensures .0)) _ (c .before .before .flow-at .ensures) in
-    (omega arith, omega arith, rw (c .before .place-of .ensures, c .amount-of .ensures) r)
+loop-again c = (omega arith, omega arith, rw (c .before .place-of .ensures, c .amount-of .ensures) (turn-sums (adding (c .before .before))))
 
 returns : tie.Need-returns Inv-loop μ-loop
 returns c = let xs = c .before .before .before .before .args .numbers .now in
