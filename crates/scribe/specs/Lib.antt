@@ -1,3 +1,6 @@
 pub mod Text
 pub mod TextLaws
 pub mod Unique
+pub mod TripLaws
+pub mod LineLaws
+pub mod Figures

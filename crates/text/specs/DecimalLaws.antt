@@ -51,6 +51,28 @@ decimal-few x = digits-few 20 x
 pub below-power : (n x : ℕ) → x < 10 ^ suc n → x / 10 < 10 ^ n
 below-power n x h = div-lt-iff-lt-mul {k = 10} (omega arith) .1 (rw pow-suc at h)
 
+-- Each is a digit.
+
+-- every byte of a list lies from `0` to `9`
+abbrev pub AllDigits : List ℕ → Type 0
+AllDigits [] = Unit {0}
+AllDigits (d ∷ ds) = ((48 ≤ d) × (d ≤ 57)) × AllDigits ds
+
+all-last : (ds : List ℕ) (d : ℕ) → AllDigits ds → 48 ≤ d → d ≤ 57 → AllDigits (ds ++ (d ∷ []))
+all-last [] d a h k = ((h, k), tt)
+all-last (e ∷ ds) d a h k = (a .0, all-last ds d (a .1) h k)
+
+digits-all : (n x : ℕ) → AllDigits (digits n x)
+digits-all zero x = tt
+digits-all (suc n) x =
+    ⊎-elim (λ h. rw (digits-last n x h) ((omega arith, omega arith), tt))
+    (λ h. rw (digits-more n x h) (all-last (digits n (x / 10)) (48 + x % 10) (digits-all n (x / 10)) (omega arith) (omega arith)))
+    (lt-or-ge x 10)
+
+pub decimal-all : (x : ℕ) → AllDigits (decimal x)
+unfolding decimal
+decimal-all x = digits-all 20 x
+
 -- What was written is read back.
 
 pub value-append : (v : ℕ) (a b : List ℕ) → valueAfter v (a ++ b) ≡ valueAfter (valueAfter v a) b

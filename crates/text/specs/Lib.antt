@@ -1,3 +1,4 @@
 pub mod Decimal
 pub mod DecimalLaws
 pub mod Unique
+pub mod Figures

@@ -1,0 +1,25 @@
+-- Worked examples of decimal numbers, computed.
+-- Assumes nothing.
+use mathlib.Core.Path.{_≡_, refl}
+use mathlib.Core.List.{List, [], _∷_}
+use Rattle.text.specs.Decimal.{decimal, valueOf}
+
+-- "0"
+pub zero-spelled : decimal 0 ≡ 48 ∷ []
+unfolding decimal
+zero-spelled = refl
+
+-- "10"
+pub ten-spelled : decimal 10 ≡ 49 ∷ 48 ∷ []
+unfolding decimal
+ten-spelled = refl
+
+-- "4294967295"
+pub word-spelled : decimal 4294967295 ≡ 52 ∷ 50 ∷ 57 ∷ 52 ∷ 57 ∷ 54 ∷ 55 ∷ 50 ∷ 57 ∷ 53 ∷ []
+unfolding decimal
+word-spelled = refl
+
+-- the greatest number of 64 bits, with twenty digits, and back
+pub greatest-spelled : valueOf (decimal 18446744073709551615) ≡ 18446744073709551615
+unfolding decimal
+greatest-spelled = refl
