@@ -1,3 +1,4 @@
 pub mod Verdict
 pub mod Held
 pub mod SearchLaws
+pub mod VerdictLaws

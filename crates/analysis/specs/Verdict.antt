@@ -79,6 +79,15 @@ judgedDetail (Points n) = n
 judgedDetail TooLarge = 0
 judgedDetail Bounded = 0
 
+-- whether there is a bound
+abbrev pub isBounded : Judged → Bool
+isBounded (Refused w d) = false
+isBounded Crossing = false
+isBounded (Crowded j) = false
+isBounded (Points n) = false
+isBounded TooLarge = false
+isBounded Bounded = true
+
 -- "The answer record is bound, start, g, number of groups, each group's wait, as seven-bit numbers."
 abbrev pub recordNumbers : Listing → List ℕ
 recordNumbers l = l .bound ∷ l .start ∷ l .grid ∷ length (l .paths) ∷ l .waits

@@ -4,6 +4,7 @@ ghost use Prim.Native.Nat.{_-_};
 ghost use Rattle.sheet.specs.Valid.{Valid};
 ghost use Rattle.search.specs.Point.{searched};
 ghost use Rattle.search.specs.Searchable.{Searchable};
+ghost use Rattle.analysis.specs.Verdict.{isBounded, judgedNumber, judgedDetail};
 ghost use Rattle.analysis.specs.Held.{blank, rowHeld, judgedHeld, analysedOf};
 use row::Row;
 use sheet::Outcome;
@@ -97,5 +98,47 @@ pub fn analyse(bytes: &[u8]) -> Analysed
     match sheet::read_sheet(bytes, &mut numbers) {
         Outcome::Done(n) => judge(&numbers[..n]),
         Outcome::Refused(why, at) => refused(Judged::Refused(why, at)),
+    }
+}
+
+// Whether there is a bound.
+pub fn is_bounded(judged: Judged) -> bool
+    ensures { λ r. ⌜ r ≡ isBounded judged ⌝ }
+{
+    match judged {
+        Judged::Refused(_, _) => false,
+        Judged::Crossing => false,
+        Judged::Crowded(_) => false,
+        Judged::Points(_) => false,
+        Judged::TooLarge => false,
+        Judged::Bounded => true,
+    }
+}
+
+// Document 01's number of a refusal, 0 where there is a bound.
+pub fn number_of(judged: Judged) -> u32
+    ensures { λ r. ⌜ r ≡ judgedNumber judged ⌝ }
+{
+    match judged {
+        Judged::Refused(why, _) => sheet::refusal_of(why),
+        Judged::Crossing => 6,
+        Judged::Crowded(_) => 7,
+        Judged::Points(_) => 8,
+        Judged::TooLarge => 9,
+        Judged::Bounded => 0,
+    }
+}
+
+// The detail of a refusal.
+pub fn detail_of(judged: Judged) -> usize
+    ensures { λ r. ⌜ r ≡ judgedDetail judged ⌝ }
+{
+    match judged {
+        Judged::Refused(_, at) => at,
+        Judged::Crossing => 0,
+        Judged::Crowded(j) => j,
+        Judged::Points(n) => n,
+        Judged::TooLarge => 0,
+        Judged::Bounded => 0,
     }
 }
