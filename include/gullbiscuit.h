@@ -1,4 +1,4 @@
-/* Gullbiscuit for programs in C and C++: sheets read and written, with every input answered.
+/* Gullbiscuit for programs in C and C++: sheets analysed, read and written, with every input answered.
  *
  * Link with libdesk.a (`rt staticlib desk` writes it to target/staticlib/). Each function gives one number, refusal * 2^32 + detail:
  * gullbiscuit_refusal and gullbiscuit_detail take it apart. On success the refusal is 0 and the detail is the count or the length.
@@ -19,6 +19,9 @@ extern "C" {
 /* A sheet has at most so many numbers and bytes: a list and a buffer of these lengths are never too short. */
 #define GULLBISCUIT_MOST_NUMBERS 231
 #define GULLBISCUIT_MOST_BYTES 475
+
+/* An answer record is at most four numbers and 31 waits of at most five bytes each: an answer buffer of this length is never too short. */
+#define GULLBISCUIT_MOST_ANSWER 175
 
 /* Why a sheet is refused, and what the detail then is. The writer's offsets count numbers, all others count bytes. */
 enum gullbiscuit_why {
@@ -46,6 +49,11 @@ static inline uint32_t gullbiscuit_detail(uint64_t answer)
 {
     return (uint32_t)answer;
 }
+
+/* Analyses a sheet and writes the answer record over the front of a buffer: bound, start, g (0 replaced by its meaning), number of groups,
+ * each group's wait, as seven-bit numbers; gives its length. Bytes past it stay. The bound holds for every byte of the watched flow.
+ * Refused with 1 to 8, or with 10 where the buffer is too short; then the whole buffer stays as it was. 9 is never given. */
+uint64_t gullbiscuit_analyse(const uint8_t *sheet, size_t sheet_len, uint8_t *answer, size_t answer_len);
 
 /* Reads a sheet's bytes and writes its numbers, in sheet order, over the front of a list; gives their count. Entries past them stay.
  * Refused with 1 to 5, or with 10 where the list is too short; then the whole list stays as it was. */
