@@ -106,13 +106,12 @@ module _ {B : Type 0} where
 
   pub by-prefix : (f : ℕ → List B) (a b : ℕ) → a ≤ b → Prefix (by f a) (by f b)
   unfolding by
-  by-prefix f zero b h = record { rest = by f b; whole = refl }
-  by-prefix f (suc a) zero h = absurd (omega arith)
-  by-prefix f (suc a) (suc b) h = go (le-or-lt (suc a) b) (by-prefix f (suc a) b)
+  by-prefix f a zero h = let e : a ≡ 0 = omega arith in rw e (prefix-refl (by f 0))
+  by-prefix f a (suc b) h = go (le-or-lt a b) (by-prefix f a b)
     where
-      go : (suc a ≤ b) ⊎ (b < suc a) → (suc a ≤ b → Prefix (by f (suc a)) (by f b)) → Prefix (by f (suc a)) (by f (suc b))
+      go : (a ≤ b) ⊎ (b < a) → (a ≤ b → Prefix (by f a) (by f b)) → Prefix (by f a) (by f (suc b))
       go (inl k) r = prefix-trans (r k) (record { rest = f (suc b); whole = refl })
-      go (inr k) r = let e : a ≡ b = omega arith in rw e (prefix-refl (by f (suc b)))
+      go (inr k) r = let e : a ≡ suc b = omega arith in rw e (prefix-refl (by f (suc b)))
 
   pub by-each : (P : B → Type 0) (f : ℕ → List B) (H : ℕ) → ((t : ℕ) → 0 < t → t ≤ H → Each P (f t)) → (t : ℕ) → t ≤ H → Each P (by f t)
   unfolding by
