@@ -1,6 +1,6 @@
 // Reads a sheet's numbers as text from standard input, and writes the sheet's bytes to standard output, or one line that says what is wrong
 // with the text and where. Numbers are counted from 0, as the writer's refusals count them; lines are counted from 1.
-ghost use Prim.Native.Nat.{_≤_, _<_};
+ghost use Prim.Native.Nat.{_<_};
 use scribe::Scribed;
 use scribe::Slip;
 use sheet::Outcome;

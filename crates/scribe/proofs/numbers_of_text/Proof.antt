@@ -3,11 +3,11 @@
 -- Assumes nothing.
 use borrow.Author.Needs.{needs}
 use Prim.Native.Nat.{_+_, _-_}
-use mathlib.Core.Path.{_≡_, sym, _∙_}
+use mathlib.Core.Path.{sym, _∙_}
 use mathlib.Core.Logic.{⊎-elim}
 use native.Mathlib.Omega.{arith}
 use lib.ListN.{length}
-use Rattle.scribe.specs.Text.{turnOf, lineAfter}
+use Rattle.scribe.specs.Text.{lineAfter}
 use Rattle.scribe.proofs.Reading.{Reading, begin, long, go-on, take-number, many, slips, ends}
 use Rattle.scribe.proofs.numbers_of_text.Statement.{statement}
 use Rattle.scribe.proofs.numbers_of_text.Tie as tie
