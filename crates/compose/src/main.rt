@@ -1,6 +1,6 @@
 // Reads a sheet's numbers as text from standard input, and writes the sheet's bytes to standard output, or one line that says what is wrong
 // with the text and where. Numbers are counted from 0, as the writer's refusals count them; lines are counted from 1.
-ghost use Prim.Native.Nat.{_≤_, _<_};
+ghost use Prim.Native.Nat.{_<_};
 use scribe::Scribed;
 use scribe::Slip;
 use sheet::Outcome;
@@ -224,24 +224,9 @@ fn print_place(text: &[u8], place: usize) {
     print(place);
 }
 
-// Writes the line of a number that is missing, left over or outside its range.
-fn print_refusal(text: &[u8], numbers: &[u32], why: Why, place: usize) {
-    let servers = number_at(numbers, 1);
-    let flows = number_at(numbers, 2 + 2 * servers);
-    let refusal = sheet::refusal_of(why);
-    let field = field_at(place, servers, flows);
-    print_place(text, place);
-    if refusal == 3 {
-        io::write_all(1, b" is left over\n");
-        return;
-    }
-    io::write_all(1, b" (");
-    print_name(field);
-    if refusal == 1 {
-        io::write_all(1, b") is missing\n");
-        return;
-    }
-    io::write_all(1, b") is ");
+// Writes that the number at a place, of this field, is outside its range.
+fn print_wrong(numbers: &[u32], place: usize, field: Field, servers: usize) {
+    io::write_all(1, b" is ");
     print(number_at(numbers, place));
     if 0 < place {
         print_outside(field, number_at(numbers, place - 1), servers);
@@ -249,6 +234,31 @@ fn print_refusal(text: &[u8], numbers: &[u32], why: Why, place: usize) {
         print_outside(field, 0, servers);
     }
     io::write_all(1, b"\n");
+}
+
+// Writes the name of the field at a place, and that it is missing or outside its range.
+fn print_field(numbers: &[u32], missing: bool, place: usize) {
+    let servers = number_at(numbers, 1);
+    let field = field_at(place, servers, number_at(numbers, 2 + 2 * servers));
+    io::write_all(1, b" (");
+    print_name(field);
+    io::write_all(1, b")");
+    if missing {
+        io::write_all(1, b" is missing\n");
+    } else {
+        print_wrong(numbers, place, field, servers);
+    }
+}
+
+// Writes the line of a number that is missing, left over or outside its range.
+fn print_refusal(text: &[u8], numbers: &[u32], why: Why, place: usize) {
+    let refusal = sheet::refusal_of(why);
+    print_place(text, place);
+    if refusal == 3 {
+        io::write_all(1, b" is left over\n");
+    } else {
+        print_field(numbers, refusal == 1, place);
+    }
 }
 
 // Writes the sheet of a text's numbers, or what is wrong with them.

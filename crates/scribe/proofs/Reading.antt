@@ -1,8 +1,7 @@
 -- Where the reader of a text stands between two bytes, and what a byte makes of it.
 -- Assumes nothing.
-use Prim.Native.Nat.{ℕ, zero, suc, _+_, _-_, _≤_, _<_}
+use Prim.Native.Nat.{ℕ, zero, suc, _+_, _≤_, _<_}
 use mathlib.Core.Path.{_≡_, refl, sym, ap, _∙_}
-use mathlib.Core.Logic.{⊎-elim}
 use mathlib.Core.List.{List, [], _∷_, _++_}
 use mathlib.Core.Bool.{Bool, true, false, cond}
 use native.Mathlib.Numerals.{add-one}
@@ -14,11 +13,9 @@ use Rattle.scribe.specs.declared.Mark.{Mark}
 use Rattle.scribe.specs.declared.Mark.the-variants.{Between}
 use Rattle.scribe.specs.declared.Slip.{Slip}
 use Rattle.scribe.specs.declared.Slip.the-variants.{Many}
-use Rattle.scribe.specs.declared.Turn.{Turn}
 use Rattle.scribe.specs.declared.Turn.the-variants as turn
-use Rattle.scribe.specs.declared.Scribed.{Scribed}
 use Rattle.scribe.specs.declared.Scribed.the-variants as gave
-use Rattle.scribe.specs.Text.{Said, these, wrong, also, onTurn, turnOf, lineAfter, textFrom, textOf, givesText, numbersIn}
+use Rattle.scribe.specs.Text.{Said, these, wrong, also, turnOf, lineAfter, textFrom, textOf, givesText, numbersIn}
 use Rattle.scribe.specs.TextLaws.{byte-behind, none-behind}
 
 -- numbers that stand before what is still to be read

@@ -1,7 +1,7 @@
 -- Worked examples of texts and what they say, computed.
 -- Assumes nothing.
 use mathlib.Core.Path.{_≡_, refl}
-use mathlib.Core.List.{List, [], _∷_}
+use mathlib.Core.List.{[], _∷_}
 use Rattle.scribe.specs.declared.Slip.the-variants.{Word, Large, Many}
 use Rattle.scribe.specs.Text.{isBlank, isDigit, outsideBy, longerBy, insideBy, turnOf, lineAfter, these, wrong, textOf}
 

@@ -2,20 +2,17 @@
 -- over; and a row of numbers, each with a line end behind it, is that row.
 -- Assumes nothing.
 use Prim.Native.Nat.{ℕ, zero, suc, _+_, _-_, _*_, _≤_, _<_}
-use mathlib.Core.Path.{_≡_, refl, sym, ap, _∙_}
+use mathlib.Core.Path.{_≡_, refl, ap, _∙_}
 use mathlib.Core.List.{List, [], _∷_, _++_, append-assoc}
-use mathlib.Core.Bool.{Bool, true, false, cond}
+use mathlib.Core.Bool.{true, false}
 use native.Mathlib.Omega.{arith}
 use lib.ListN.{length}
-use lib.Dec.{leb, eqb}
 use borrow.Author.Tests.{le-leb, ne-eqb}
 use Rattle.text.specs.Decimal.{decimal, valueAfter, valueOf}
 use Rattle.text.specs.DecimalLaws.{AllDigits, decimal-all, decimal-some, decimal-value}
-use Rattle.scribe.specs.declared.Mark.{Mark}
 use Rattle.scribe.specs.declared.Mark.the-variants.{Between, Comment, Inside}
-use Rattle.scribe.specs.declared.Turn.{Turn}
 use Rattle.scribe.specs.declared.Turn.the-variants as turn
-use Rattle.scribe.specs.Text.{isBlank, isDigit, outsideBy, longerBy, insideBy, turnOf, Said, these, wrong, also, onTurn, lineAfter, textFrom, textOf}
+use Rattle.scribe.specs.Text.{isBlank, isDigit, outsideBy, longerBy, insideBy, turnOf, these, also, lineAfter, textFrom, textOf}
 
 -- A digit, byte by byte.
 

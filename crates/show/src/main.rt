@@ -1,6 +1,6 @@
 // Reads a sheet from standard input, at most its first 1,024 bytes, and writes its numbers as text with a comment in each line; `compose`
 // makes the same sheet of it. A sheet that is refused gives the line `refused R at D`: number and detail.
-ghost use Prim.Native.Nat.{_≤_, _<_};
+ghost use Prim.Native.Nat.{_≤_};
 use sheet::Outcome;
 use sheet::Why;
 

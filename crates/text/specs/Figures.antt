@@ -1,7 +1,7 @@
 -- Worked examples of decimal numbers, computed.
 -- Assumes nothing.
 use mathlib.Core.Path.{_≡_, refl}
-use mathlib.Core.List.{List, [], _∷_}
+use mathlib.Core.List.{[], _∷_}
 use Rattle.text.specs.Decimal.{decimal, valueOf}
 
 -- "0"

@@ -3,11 +3,11 @@
 -- Assumes nothing.
 use borrow.Author.Needs.{needs}
 use Prim.Native.Nat.{_+_, _-_}
-use mathlib.Core.Path.{_≡_, sym, _∙_}
+use mathlib.Core.Path.{sym, _∙_}
 use mathlib.Core.Logic.{⊎-elim}
 use native.Mathlib.Omega.{arith}
 use lib.ListN.{length}
-use Rattle.scribe.specs.Text.{turnOf, lineAfter}
+use Rattle.scribe.specs.Text.{lineAfter}
 use Rattle.scribe.proofs.Reading.{Reading, begin, long, go-on, take-number, many, slips, ends}
 use Rattle.scribe.proofs.numbers_of_text.Statement.{statement}
 use Rattle.scribe.proofs.numbers_of_text.Tie as tie
@@ -32,8 +32,8 @@ stepped : (c : tie.At-match-came Inv-loop μ-loop)
     (c .before .before .before .before .loop .i + 1)
 stepped c =
     ⊎-elim
-    (λ w. rw (w .3, w .4, w .5) (go-on (c .before .before .before .before .loop .inv) _ _ (c .before .before .before .loop-test .taken) (c .before .before .byte-at .ensures) (sym (c .before .turn-of .ensures) ∙ w .1 .given .1)))
-    (λ w. rw (w .4, w .5, w .6) (take-number (c .before .before .before .before .loop .inv) _ _ _ (c .before .before .before .loop-test .taken) (c .before .before .byte-at .ensures) (sym (c .before .turn-of .ensures) ∙ w .1 .given .1) (w .3 .left)))
+    (λ w. rw (w .3, w .4, w .5) (go-on (c .before .before .before .before .loop .inv) _ _ (omega (arith, c .before .before .before .loop-test .taken)) (c .before .before .byte-at .ensures) (sym (c .before .turn-of .ensures) ∙ w .1 .given .1)))
+    (λ w. rw (w .4, w .5, w .6) (take-number (c .before .before .before .before .loop .inv) _ _ _ (omega (arith, c .before .before .before .loop-test .taken)) (c .before .before .byte-at .ensures) (sym (c .before .turn-of .ensures) ∙ w .1 .given .1) (w .3 .left)))
     (c .match .came)
 
 loop-holds : tie.Need-loop-holds Inv-loop μ-loop
@@ -55,7 +55,7 @@ same-length : tie.Need-same-length Inv-loop μ-loop
 same-length c = long (c .before .before .before .before .before .before .before .loop .inv)
 
 returns : tie.Need-returns Inv-loop μ-loop
-returns c = many (c .before .before .before .before .before .before .before .loop .inv) _ _ _ (c .before .before .before .before .before .before .loop-test .taken) (c .before .before .before .before .before .byte-at .ensures) (sym (c .before .before .before .before .turn-of .ensures) ∙ c .before .before .x .given .1) (c .if1 .taken)
+returns c = many (c .before .before .before .before .before .before .before .loop .inv) _ _ _ (omega (arith, c .before .before .before .before .before .before .loop-test .taken)) (c .before .before .before .before .before .byte-at .ensures) (sym (c .before .before .before .before .turn-of .ensures) ∙ c .before .before .x .given .1) (c .if1 .taken)
 
 mul-numbers : tie.Need-mul-numbers Inv-loop μ-loop
 mul-numbers c = search needs
@@ -73,7 +73,7 @@ same-length-2 : tie.Need-same-length-2 Inv-loop μ-loop
 same-length-2 c = long (c .before .before .before .before .before .before .loop .inv)
 
 returns-2 : tie.Need-returns-2 Inv-loop μ-loop
-returns-2 c = slips (c .before .before .before .before .before .before .loop .inv) _ _ (c .before .before .before .before .before .loop-test .taken) (c .before .before .before .before .byte-at .ensures) (sym (c .before .before .before .turn-of .ensures) ∙ c .before .slip .given .1)
+returns-2 c = slips (c .before .before .before .before .before .before .loop .inv) _ _ (omega (arith, c .before .before .before .before .before .loop-test .taken)) (c .before .before .before .before .byte-at .ensures) (sym (c .before .before .before .turn-of .ensures) ∙ c .before .slip .given .1)
 
 line-after-requires : tie.Need-line-after-requires Inv-loop μ-loop
 line-after-requires c κs = omega (arith, c .before .before .before .before .loop .inv .lines)
@@ -91,7 +91,7 @@ same-length-3 : tie.Need-same-length-3 Inv-loop μ-loop
 same-length-3 c = long (c .before .loop .inv)
 
 returns-3 : tie.Need-returns-3 Inv-loop μ-loop
-returns-3 c = ends (c .before .loop .inv) (c .loop-test .left)
+returns-3 c = ends (c .before .loop .inv) (omega arith)
 
 pub numbers-of-text-spec : {M : Type 1} → statement M
 numbers-of-text-spec =

@@ -23,7 +23,7 @@ loop-less : tie.Need-loop-less Inv-loop μ-loop
 loop-less c = search needs
 
 loop-again : tie.Need-loop-again Inv-loop μ-loop
-loop-again c = count (c .before .loop .inv) (c .loop-test .taken)
+loop-again c = count (c .before .loop .inv) (omega arith)
 
 returns : tie.Need-returns Inv-loop μ-loop
 returns c = counted (c .before .loop .inv) (omega arith)

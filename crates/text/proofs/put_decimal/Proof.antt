@@ -42,7 +42,7 @@ loop-less : tie.Need-loop-less Inv-loop μ-loop
 loop-less c = search needs
 
 loop-again : tie.Need-loop-again Inv-loop μ-loop
-loop-again c = next (c .before .loop .inv) (c .loop-test .taken)
+loop-again c = next (c .before .loop .inv) (omega arith)
 
 add-buf-2 : tie.Need-add-buf-2 Inv-loop μ-loop
 add-buf-2 c = search needs
@@ -57,7 +57,7 @@ same-length : tie.Need-same-length Inv-loop μ-loop
 same-length c = search needs
 
 returns : tie.Need-returns Inv-loop μ-loop
-returns c = (omega (arith, c .before .before .decimal-width .ensures), last (c .before .loop .inv) (c .loop-test .left))
+returns c = (omega (arith, c .before .before .decimal-width .ensures), last (c .before .loop .inv) (omega arith))
 
 pub put-decimal-spec : {M : Type 1} → statement M
 put-decimal-spec =
