@@ -2,3 +2,4 @@ pub mod Verdict
 pub mod Held
 pub mod SearchLaws
 pub mod VerdictLaws
+pub mod Unique

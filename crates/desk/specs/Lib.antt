@@ -1,5 +1,6 @@
 pub mod Packed
-pub mod DetailLaws
-pub mod Unique
 pub mod Answer
 pub mod Record
+pub mod DetailLaws
+pub mod DemandLaws
+pub mod Unique

@@ -8,7 +8,7 @@ use native.Mathlib.Omega.{arith}
 use borrow.Author.Tests.{eqb-true, eq-eqb}
 use Rattle.row.specs.Tandem.{Tandem, size, crosses}
 use Rattle.row.specs.Accepted.{Sound}
-use Rattle.tree.specs.FlowLaws.{is-crosses}
+use Rattle.row.specs.TandemLaws.{is-crosses}
 use Rattle.runs.specs.Lines.{keep, Prefix}
 use Rattle.runs.specs.Run.{Run, Keeps, joinedBy, leftBy, ofFlow}
 use Rattle.runs.specs.Demand.{Within}
