@@ -341,12 +341,12 @@ pub fn list_width(xs: &[u32]) -> usize
     ensures { λ r. ⌜ r ≡ length (encodeAll (now (xs .entry))) ⌝ }
 {
     let mut i: usize = 0;
-    let mut total: usize = 0;
+    let mut sum: usize = 0;
     while i < xs.len() {
-        total = total + numbers::width(xs[i]);
+        sum = sum + numbers::width(xs[i]);
         i = i + 1;
     }
-    total
+    sum
 }
 
 // Writes the bytes of a list of numbers over the front of a buffer that has room for them.

@@ -11,10 +11,10 @@ use Rattle.sheet.proofs.list_width.Statement.{statement}
 use Rattle.sheet.proofs.list_width.Tie as tie
 
 abbrev Inv-loop : tie.InvT-loop
-Inv-loop xs i₀ total₀ i total = Counting xs i total
+Inv-loop xs i₀ sum₀ i sum = Counting xs i sum
 
 abbrev μ-loop : tie.MeasureT-loop
-μ-loop xs i₀ total₀ i total = length xs - i
+μ-loop xs i₀ sum₀ i sum = length xs - i
 
 loop-holds : tie.Need-loop-holds Inv-loop μ-loop
 loop-holds c = begin-counting _
@@ -28,8 +28,8 @@ shared-slice-read-width c = search needs
 width-requires : tie.Need-width-requires Inv-loop μ-loop
 width-requires c κs = search needs
 
-add-total : tie.Need-add-total Inv-loop μ-loop
-add-total c = omega (arith, c .before .before .before .loop .inv .cap, c .before .before .before .loop .inv .few, c .before .before .before .before .before .pre, c .width .ensures, encode-few (getD (c .before .before .before .before .before .args .xs .now) (c .before .before .before .loop .i) 0))
+add-sum : tie.Need-add-sum Inv-loop μ-loop
+add-sum c = omega (arith, c .before .before .before .loop .inv .cap, c .before .before .before .loop .inv .few, c .before .before .before .before .before .pre, c .width .ensures, encode-few (getD (c .before .before .before .before .before .args .xs .now) (c .before .before .before .loop .i) 0))
 
 add-i : tie.Need-add-i Inv-loop μ-loop
 add-i c = search needs
@@ -53,7 +53,7 @@ list-width-spec =
     mul-width
     shared-slice-read-width
     width-requires
-    add-total
+    add-sum
     add-i
     loop-less
     loop-again
