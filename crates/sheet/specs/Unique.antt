@@ -4,11 +4,12 @@ use Prim.Native.Nat.{ℕ}
 use mathlib.Core.Path.{_≡_}
 use mathlib.Core.List.{List}
 use lib.ListN.{length}
+use lib.Seq.{sets}
 use Rattle.numbers.specs.Unique.{one-value}
 use Rattle.sheet.specs.declared.Outcome.{Outcome}
 use Rattle.sheet.specs.declared.Why.{Why}
 use Rattle.sheet.specs.Refusal.{refusal}
-use Rattle.sheet.specs.Sheet.{sheetOf, listOf, readGives, readHolds, writeGives, writeHolds}
+use Rattle.sheet.specs.Sheet.{sheetOf, listOf, encodeAll, readGives, readHolds, writeGives, writeHolds}
 
 -- what `read_sheet` promises of its result and of the list
 pub record Read (bytes before : List ℕ) (r : Outcome) (after : List ℕ) : Type 0 where
@@ -30,3 +31,9 @@ write-sheet-unique numbers before r r′ after after′ p q = (one-value (p .giv
 
 pub refusal-of-unique : (why : Why) (r r′ : ℕ) → r ≡ refusal why → r′ ≡ refusal why → r ≡ r′
 refusal-of-unique why r r′ = one-value
+
+pub list-width-unique : (xs : List ℕ) (r r′ : ℕ) → r ≡ length (encodeAll xs) → r′ ≡ length (encodeAll xs) → r ≡ r′
+list-width-unique xs r r′ = one-value
+
+pub put-all-unique : (xs before after after′ : List ℕ) → after ≡ sets before 0 (encodeAll xs) → after′ ≡ sets before 0 (encodeAll xs) → after ≡ after′
+put-all-unique xs before after after′ = one-value
