@@ -34,7 +34,8 @@ use Rattle.tree.specs.NestedLaws.{Order, order-groups}
 use Rattle.tree.specs.SizeLaws.{start-small, plan-fine}
 use Rattle.tree.specs.PruneLaws.{latenciesOf, delay-ge-sum}
 use Rattle.search.specs.Point.{serversOf, flowsOf, noFlow, answerOf}
-use Rattle.search.specs.Searchable.{Fine, AllFine, Placed, Shaped, Each, total, latencies, Good, Searchable}
+use Rattle.tree.specs.Searched.{Each}
+use Rattle.search.specs.Searchable.{Fine, AllFine, Placed, Shaped, total, latencies, Good, Searchable}
 
 each-at : {A : Type 0} (P : A → Type 0) (l : List A) (d : A) → Each P l → (k : ℕ) → k < length l → P (getD l k d)
 each-at P [] d e k h = absurd (omega arith)

@@ -13,8 +13,10 @@ use Rattle.search.specs.declared.Point.{Point}
 use Rattle.search.specs.declared.Steps.{Steps}
 use Rattle.search.specs.Point.{serversOf, flowsOf, extrasOf, pointOf, heldAt}
 use Rattle.search.specs.Steps.{valuesOf}
-use Rattle.search.specs.Searchable.{Each, total, AllFine, Good, Ready}
-use Rattle.search.specs.GridLaws.{best-skip, best-more, each-both, each-flat, points-total, total-append}
+use Rattle.tree.specs.Searched.{Each}
+use Rattle.search.specs.Searchable.{total, AllFine, Good, Ready}
+use Rattle.tree.specs.GridLaws.{best-stays}
+use Rattle.search.specs.GridLaws.{best-more, each-both, each-flat, points-total, total-append}
 
 -- the points with e behind the first k extras
 abbrev pub block : Row → Steps → List ℕ → ℕ → ℕ → List (List ℕ)
@@ -50,7 +52,7 @@ module _ (row : Row) (steps : Steps) (extra : List ℕ) (k least : ℕ) (best : 
     unfolding pointOf
     block-skip a i q h =
         let e = getD (steps .values) i 0 in
-        best-skip (heldAt row) a (block row steps extra k e)
+        best-stays (heldAt row) a (block row steps extra k e)
         (each-both (Good row) (λ es. total (take k extra ++ (e ∷ [])) ≤ total es) (λ es. a .delay ≤ heldAt row es .delay)
         (λ es u v. omega (arith, u .above, v, h, r .sums, total-append (take k extra) (e ∷ []))) (block row steps extra k e) (block-good i q)
         (points-total (valuesOf steps) (row .count - 1 - (k + 1)) (take k extra ++ (e ∷ []))))

@@ -13,9 +13,11 @@ use Rattle.search.specs.declared.Point.{Point}
 use Rattle.search.specs.declared.Steps.{Steps}
 use Rattle.search.specs.declared.Found.{Found}
 use Rattle.search.specs.Point.{serversOf, flowsOf, answerAt, extrasOf, pointOf, answerHeld, heldAt, searched}
-use Rattle.search.specs.Searchable.{Each, latencies, AllFine, Good, Searchable, Ready, foundIn}
+use Rattle.tree.specs.Searched.{Each}
+use Rattle.search.specs.Searchable.{latencies, AllFine, Good, Searchable, Ready, foundIn}
 use Rattle.search.specs.Steps.{once, stepAt, valuesOf}
-use Rattle.search.specs.GridLaws.{best-steps, best-held, each-weaken, each-at, points-each}
+use Rattle.tree.specs.GridLaws.{each-map}
+use Rattle.search.specs.GridLaws.{best-steps, best-held, each-at, points-each}
 use Rattle.search.proofs.Stepping.{steps-le}
 
 take-zeros : (n m : ℕ) → n ≤ m → take {A = ℕ} n (replicate m 0) ≡ replicate n 0
@@ -71,8 +73,8 @@ module _ (row : Row) (h : Searchable row) where
                 let u = each-at (λ k. k ≤ firstOf row .delay) (valuesOf steps) i (omega arith) steps-low in
                 omega (arith, getD-take (steps .count) (steps .values) i 0 q, h .near);
             good = rw z
-                (each-weaken (λ es. (length es ≡ 0 + (row .count - 1)) × Each (λ k. k ≤ firstOf row .delay) es) (Good row)
-                (λ es q. h .good es (omega (arith, q .0)) (q .1)) (pointsFrom (valuesOf steps) [] (row .count - 1))
+                (each-map (λ es. (length es ≡ 0 + (row .count - 1)) × Each (λ k. k ≤ firstOf row .delay) es) (Good row)
+                (pointsFrom (valuesOf steps) [] (row .count - 1)) (λ es q. h .good es (omega (arith, q .0)) (q .1))
                 (points-each (λ k. k ≤ firstOf row .delay) (valuesOf steps) steps-low (row .count - 1) [] tt));
           }
 

@@ -12,9 +12,10 @@ use lib.Dec.{eqb}
 use lib.ListN.{length, take, getD, set, replicate, length-set}
 use lib.Seq.{take-suc-set}
 use Rattle.row.specs.declared.Server.{Server}
-use Rattle.search.specs.Searchable.{Each, latencies}
+use Rattle.tree.specs.Searched.{Each}
+use Rattle.search.specs.Searchable.{latencies}
 use Rattle.search.specs.Steps.{keep, once, stepAt}
-use Rattle.search.specs.GridLaws.{each-join}
+use Rattle.tree.specs.GridLaws.{each-append}
 
 -- steps 0 to i - 1 are collected, and `prev` is the last of them
 pub record Stepping (start g : ℕ) (values : List ℕ) (count prev i : ℕ) : Type 0 where
@@ -95,7 +96,7 @@ step-le start g i p =
 
 keep-each : (P : ℕ → Type 0) (t : Bool) (l : List ℕ) (e : ℕ) → Each P l → P e → Each P (keep t l e)
 keep-each P true l e h k = h
-keep-each P false l e h k = each-join P l (e ∷ []) h (k, tt)
+keep-each P false l e h k = each-append P l (e ∷ []) h (k, tt)
 
 pub once-each : (P : ℕ → Type 0) (f : ℕ → ℕ) (n : ℕ) → ((i : ℕ) → i < n → P (f i)) → Each P (once f n)
 once-each P f zero h = tt

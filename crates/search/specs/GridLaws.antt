@@ -14,8 +14,11 @@ use lib.ListN.{length, take, getD, length-append}
 use lib.Seq.{take-suc}
 use Rattle.row.specs.OfSheet.{listed}
 use Rattle.tree.specs.Grid.{Answer, flat, pointsFrom, pointsOf, stepsOf, better, bestOf}
+use Rattle.tree.specs.Searched.{Each}
+use Rattle.tree.specs.GridLaws.{best-le, best-append, best-stays, each-map}
+use Rattle.tree.specs.GridLaws as tree
 use Rattle.search.specs.Point.{pointOf, answerHeld}
-use Rattle.search.specs.Searchable.{Each, total}
+use Rattle.search.specs.Searchable.{total}
 use Rattle.search.specs.Steps.{once, stepAt}
 
 -- the better of two answers
@@ -32,10 +35,6 @@ better-le : (a b : Answer) (t : Bool) → ltb (b .delay) (a .delay) ≡ t → (b
 better-le a b true e = let h = ltb-true (b .delay) (a .delay) e in rw (better-yes a b h) (omega arith, omega arith)
 better-le a b false e = let h = ltb-false (b .delay) (a .delay) e in rw (better-no a b h) (omega arith, omega arith)
 
-pub best-le : (at : List ℕ → Answer) (a : Answer) (l : List (List ℕ)) → bestOf at a l .delay ≤ a .delay
-best-le at a [] = omega arith
-best-le at a (p ∷ l) = le-trans (best-le at (better a (at p)) l) (better-le a (at p) (ltb (at p .delay) (a .delay)) refl .0)
-
 best-least : (at : List ℕ → Answer) (a : Answer) (l : List (List ℕ)) → Each (λ p. bestOf at a l .delay ≤ at p .delay) l
 best-least at a [] = tt
 best-least at a (p ∷ l) = (
@@ -43,18 +42,9 @@ best-least at a (p ∷ l) = (
   best-least at (better a (at p)) l,
 )
 
-pub best-append : (at : List ℕ → Answer) (a : Answer) (l m : List (List ℕ)) → bestOf at a (l ++ m) ≡ bestOf at (bestOf at a l) m
-best-append at a [] m = refl
-best-append at a (p ∷ l) m = best-append at (better a (at p)) l m
-
--- points that are not below the best so far leave it
-pub best-skip : (at : List ℕ → Answer) (a : Answer) (l : List (List ℕ)) → Each (λ p. a .delay ≤ at p .delay) l → bestOf at a l ≡ a
-best-skip at a [] h = refl
-best-skip at a (p ∷ l) h = rw (better-no a (at p) (h .0)) (best-skip at a l (h .1))
-
 -- points that are met again leave it
 pub best-again : (at : List ℕ → Answer) (a : Answer) (l : List (List ℕ)) → bestOf at (bestOf at a l) l ≡ bestOf at a l
-best-again at a l = best-skip at (bestOf at a l) l (best-least at a l)
+best-again at a l = best-stays at (bestOf at a l) l (best-least at a l)
 
 -- blocks of points, one for each step
 
@@ -132,14 +122,6 @@ pub each-append : {A : Type 0} (P : A → Type 0) (l m : List A) → Each P (l +
 each-append P [] m h = (tt, h)
 each-append P (x ∷ l) m h = let r = each-append P l m (h .1) in ((h .0, r .0), r .1)
 
-pub each-join : {A : Type 0} (P : A → Type 0) (l m : List A) → Each P l → Each P m → Each P (l ++ m)
-each-join P [] m h k = k
-each-join P (x ∷ l) m h k = (h .0, each-join P l m (h .1) k)
-
-pub each-weaken : {A : Type 0} (P Q : A → Type 0) → ((x : A) → P x → Q x) → (l : List A) → Each P l → Each Q l
-each-weaken P Q f [] h = tt
-each-weaken P Q f (x ∷ l) h = (f x (h .0), each-weaken P Q f l (h .1))
-
 pub each-both : {A : Type 0} (P Q R : A → Type 0) → ((x : A) → P x → Q x → R x) → (l : List A) → Each P l → Each Q l → Each R l
 each-both P Q R f [] h k = tt
 each-both P Q R f (x ∷ l) h k = (f x (h .0) (k .0), each-both P Q R f l (h .1) (k .1))
@@ -157,7 +139,7 @@ each-flat P h (e ∷ l) (suc i) p a = each-flat P h l i (omega arith) (each-appe
 
 flat-each : (P : ℕ → Type 0) (Q : List ℕ → Type 0) (h : ℕ → List (List ℕ)) (l : List ℕ) → ((e : ℕ) → P e → Each Q (h e)) → Each P l → Each Q (flat h l)
 flat-each P Q h [] f k = tt
-flat-each P Q h (e ∷ l) f k = each-join Q (h e) (flat h l) (f e (k .0)) (flat-each P Q h l f (k .1))
+flat-each P Q h (e ∷ l) f k = tree.each-append Q (h e) (flat h l) (f e (k .0)) (flat-each P Q h l f (k .1))
 
 -- a point has an extra for each group, and what holds of each step holds of each extra
 pub points-each : (P : ℕ → Type 0) (l : List ℕ) → Each P l → (n : ℕ) (fixed : List ℕ) → Each P fixed
@@ -165,9 +147,9 @@ pub points-each : (P : ℕ → Type 0) (l : List ℕ) → Each P l → (n : ℕ)
 points-each P l h zero fixed k = ((omega arith, k), tt)
 points-each P l h (suc n) fixed k =
     flat-each P (λ es. (length es ≡ length fixed + suc n) × Each P es) (λ (e : ℕ). pointsFrom l (fixed ++ (e ∷ [])) n) l
-    (λ e p. each-weaken (λ es. (length es ≡ length (fixed ++ (e ∷ [])) + n) × Each P es) (λ es. (length es ≡ length fixed + suc n) × Each P es)
-    (λ es q. (omega (arith, q .0, length-append fixed (e ∷ [])), q .1)) (pointsFrom l (fixed ++ (e ∷ [])) n)
-    (points-each P l h n (fixed ++ (e ∷ [])) (each-join P fixed (e ∷ []) k (p, tt))))
+    (λ e p. each-map (λ es. (length es ≡ length (fixed ++ (e ∷ [])) + n) × Each P es) (λ es. (length es ≡ length fixed + suc n) × Each P es)
+    (pointsFrom l (fixed ++ (e ∷ [])) n) (λ es q. (omega (arith, q .0, length-append fixed (e ∷ [])), q .1))
+    (points-each P l h n (fixed ++ (e ∷ [])) (tree.each-append P fixed (e ∷ []) k (p, tt))))
     h
 
 pub total-append : (l m : List ℕ) → total (l ++ m) ≡ total l + total m
@@ -183,6 +165,6 @@ pub points-total : (l : List ℕ) (n : ℕ) (fixed : List ℕ) → Each (λ es. 
 points-total l zero fixed = (omega arith, tt)
 points-total l (suc n) fixed =
     flat-each (λ e. Unit {0}) (λ es. total fixed ≤ total es) (λ (e : ℕ). pointsFrom l (fixed ++ (e ∷ [])) n) l
-    (λ e p. each-weaken (λ es. total (fixed ++ (e ∷ [])) ≤ total es) (λ es. total fixed ≤ total es)
-    (λ es q. omega (arith, q, total-append fixed (e ∷ []))) (pointsFrom l (fixed ++ (e ∷ [])) n) (points-total l n (fixed ++ (e ∷ []))))
+    (λ e p. each-map (λ es. total (fixed ++ (e ∷ [])) ≤ total es) (λ es. total fixed ≤ total es)
+    (pointsFrom l (fixed ++ (e ∷ [])) n) (λ es q. omega (arith, q, total-append fixed (e ∷ []))) (points-total l n (fixed ++ (e ∷ []))))
     (each-any (λ e. Unit {0}) (λ e. tt) l)

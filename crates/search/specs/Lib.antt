@@ -2,5 +2,4 @@ pub mod Point
 pub mod Steps
 pub mod Searchable
 pub mod GridLaws
-pub mod SearchLaws
 pub mod Unique

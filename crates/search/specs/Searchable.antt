@@ -12,6 +12,7 @@ use Rattle.row.specs.declared.Flow.{Flow}
 use Rattle.row.specs.declared.Row.{Row}
 use Rattle.row.specs.OfSheet.{padded}
 use Rattle.tree.specs.Plan.{nodeCurve, headOf, tailOf, plan}
+use Rattle.tree.specs.Searched.{Each}
 use Rattle.tree.specs.Grid.{Answer, pointsFrom}
 use Rattle.search.specs.declared.Point.{Point}
 use Rattle.search.specs.declared.Steps.{Steps}
@@ -51,11 +52,6 @@ pub record Shaped (row : Row) : Type 0 where
   pub few : row .count ≤ 32
   pub paths : (k : ℕ) → k < row .count → Placed (row .size) (getD (row .groups) k noFlow)
   pub watched : getD (row .groups) 0 noFlow .burst + getD (row .groups) 0 noFlow .rate < 2 ^ 40
-
--- P of each entry
-abbrev pub Each : {A : Type 0} → (A → Type 0) → List A → Type 0
-Each P [] = Unit {0}
-Each P (x ∷ l) = P x × Each P l
 
 abbrev pub total : List ℕ → ℕ
 total [] = 0

@@ -11,7 +11,7 @@ use Rattle.tree.specs.Grid.{Answer, flat, bestOf}
 use Rattle.search.specs.declared.Point.{Point}
 use Rattle.search.specs.Point.{answerHeld, heldAt}
 use Rattle.search.specs.Steps.{valuesOf}
-use Rattle.search.specs.GridLaws.{best-le}
+use Rattle.tree.specs.GridLaws.{best-le}
 use Rattle.search.proofs.Scanning.{block, spread, point-fine, block-skip, block-more, extra-more, ready-more}
 use Prim.Native.Nat.{ℕ, _<_}
 use borrow.Fn.Kinds.{In}
