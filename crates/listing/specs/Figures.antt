@@ -1,0 +1,59 @@
+-- The report of P7, which document 01 prints in full, and the refusals of P10 and of a sheet with no byte.
+-- Assumes nothing.
+use mathlib.Core.Path.{_≡_, refl}
+use mathlib.Core.List.{List, [], _∷_, _++_}
+use Prim.Native.Nat.{ℕ}
+use Rattle.numbers.specs.Seven.{numberAt}
+use Rattle.sheet.specs.Rule.{ruleAt, serverNumbers, seenAfter}
+use Rattle.sheet.specs.Sheet.{stepOn, sheetOf}
+use Rattle.curves.specs.Curve.{server, neutral, joined, ceil, greatest, catchUp, leastWait, remainder, lateness, delay}
+use Rattle.row.specs.Sums.{total, any}
+use Rattle.row.specs.Tandem.{crosses, on, bursts, rates}
+use Rattle.row.specs.Groups.{used, from, from-on, groups, grouped, reads}
+use Rattle.row.specs.Checks.{overlaps, notNested, crowded, lowestCrowded, tooMany}
+use Rattle.row.specs.OfSheet.{listed, tandemOf, gridOf, checkOf}
+use Rattle.tree.specs.Grid.{stepsOf, pointsOf, better, foundOf}
+use Rattle.tree.specs.Stretch.{groupWait, afterGroup, curve}
+use Rattle.tree.specs.Tree.{walk, top, tree}
+use Rattle.tree.specs.Bound.{bound, waits, answerAt, searched}
+use Rattle.tree.specs.Plan.{plan, nodeOf, nodeCurve, along, topOf}
+use Rattle.tree.specs.Large.{tooLarge, largeAt, some, largeNode, largeCurve}
+use Rattle.text.specs.Decimal.{decimal}
+use Rattle.analysis.specs.Verdict.{listingOf, verdictOf}
+use Rattle.listing.specs.Text.{field, line, groupLine, groupLines, figureLines, refusalLine, textOf}
+
+-- P7: R 10, T 0; cross 10, 6; watched 12, 4; g 4
+abbrev pub sheet7 : List ℕ
+sheet7 = 1 ∷ 1 ∷ 10 ∷ 0 ∷ 1 ∷ 1 ∷ 1 ∷ 10 ∷ 6 ∷ 12 ∷ 4 ∷ 0 ∷ 4 ∷ []
+
+-- "bound 3", "start 4", "grid 4", "group 1 1 wait 2"
+abbrev pub text7 : List ℕ
+text7 =
+    (98 ∷ 111 ∷ 117 ∷ 110 ∷ 100 ∷ 32 ∷ 51 ∷ 10 ∷ [])
+    ++ (115 ∷ 116 ∷ 97 ∷ 114 ∷ 116 ∷ 32 ∷ 52 ∷ 10 ∷ [])
+    ++ (103 ∷ 114 ∷ 105 ∷ 100 ∷ 32 ∷ 52 ∷ 10 ∷ [])
+    ++ (103 ∷ 114 ∷ 111 ∷ 117 ∷ 112 ∷ 32 ∷ 49 ∷ 32 ∷ 49 ∷ 32 ∷ 119 ∷ 97 ∷ 105 ∷ 116 ∷ 32 ∷ 50 ∷ 10 ∷ [])
+
+pub report7 : textOf (verdictOf sheet7) ≡ text7
+unfolding textOf refusalLine figureLines groupLines groupLine line field decimal verdictOf listingOf searched foundOf stepsOf listed pointsOf better answerAt bound waits tree top walk curve afterGroup groupWait server neutral joined ceil greatest catchUp leastWait remainder lateness delay total any crosses on bursts rates used from from-on groups grouped reads overlaps notNested crowded lowestCrowded tooMany tooLarge largeAt some largeNode largeCurve plan nodeOf nodeCurve along topOf tandemOf gridOf checkOf sheetOf stepOn ruleAt serverNumbers seenAfter numberAt
+report7 = refl
+
+-- P10: R 10, rates 6 and 5
+abbrev pub sheet10 : List ℕ
+sheet10 = 1 ∷ 1 ∷ 10 ∷ 0 ∷ 1 ∷ 1 ∷ 1 ∷ 1 ∷ 6 ∷ 1 ∷ 5 ∷ 0 ∷ 3 ∷ []
+
+-- "refused 7 at 1"
+abbrev pub text10 : List ℕ
+text10 = 114 ∷ 101 ∷ 102 ∷ 117 ∷ 115 ∷ 101 ∷ 100 ∷ 32 ∷ 55 ∷ 32 ∷ 97 ∷ 116 ∷ 32 ∷ 49 ∷ 10 ∷ []
+
+pub report10 : textOf (verdictOf sheet10) ≡ text10
+unfolding textOf refusalLine line field decimal verdictOf listed total any crosses on bursts rates used from from-on groups overlaps notNested crowded lowestCrowded tooMany tandemOf gridOf checkOf sheetOf stepOn ruleAt serverNumbers seenAfter numberAt
+report10 = refl
+
+-- "refused 1 at 0": the first number is missing
+abbrev pub text0 : List ℕ
+text0 = 114 ∷ 101 ∷ 102 ∷ 117 ∷ 115 ∷ 101 ∷ 100 ∷ 32 ∷ 49 ∷ 32 ∷ 97 ∷ 116 ∷ 32 ∷ 48 ∷ 10 ∷ []
+
+pub report0 : textOf (verdictOf []) ≡ text0
+unfolding textOf refusalLine line field decimal verdictOf sheetOf stepOn ruleAt serverNumbers seenAfter numberAt
+report0 = refl

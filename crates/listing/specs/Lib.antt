@@ -1,0 +1,6 @@
+pub mod Text
+pub mod TextLaws
+pub mod Held
+pub mod HeldLaws
+pub mod Figures
+pub mod Unique

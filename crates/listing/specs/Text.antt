@@ -1,0 +1,74 @@
+-- The report's text (document 01, "Figures to hold it to"): "bound and start in slots; the grid used; then each group's first and last server
+-- and its wait in slots", or "A refusal prints one line: number, detail". Words are in ASCII codes, and each line ends with one line end.
+-- Assumes nothing.
+use Prim.Native.Nat.{ℕ}
+use mathlib.Core.List.{List, [], _∷_, _++_}
+use Rattle.text.specs.Decimal.{decimal}
+use Rattle.row.specs.Tandem.{Path}
+use Rattle.tree.specs.Plan.{headOf, tailOf}
+use Rattle.analysis.specs.Verdict.{Listing, Verdict, refused, bounded, judgedNumber, judgedDetail}
+
+-- "bound "
+abbrev pub boundWord : List ℕ
+boundWord = 98 ∷ 111 ∷ 117 ∷ 110 ∷ 100 ∷ 32 ∷ []
+
+-- "start "
+abbrev pub startWord : List ℕ
+startWord = 115 ∷ 116 ∷ 97 ∷ 114 ∷ 116 ∷ 32 ∷ []
+
+-- "grid "
+abbrev pub gridWord : List ℕ
+gridWord = 103 ∷ 114 ∷ 105 ∷ 100 ∷ 32 ∷ []
+
+-- "group "
+abbrev pub groupWord : List ℕ
+groupWord = 103 ∷ 114 ∷ 111 ∷ 117 ∷ 112 ∷ 32 ∷ []
+
+-- " "
+abbrev pub blank : List ℕ
+blank = 32 ∷ []
+
+-- " wait "
+abbrev pub waitWord : List ℕ
+waitWord = 32 ∷ 119 ∷ 97 ∷ 105 ∷ 116 ∷ 32 ∷ []
+
+-- "refused "
+abbrev pub refusedWord : List ℕ
+refusedWord = 114 ∷ 101 ∷ 102 ∷ 117 ∷ 115 ∷ 101 ∷ 100 ∷ 32 ∷ []
+
+-- " at "
+abbrev pub atWord : List ℕ
+atWord = 32 ∷ 97 ∷ 116 ∷ 32 ∷ []
+
+-- the line end
+abbrev pub lineEnd : List ℕ
+lineEnd = 10 ∷ []
+
+-- a word and behind it a number; and the same as the end of a line
+unfoldable pub field : List ℕ → ℕ → List ℕ
+field word x = word ++ decimal x
+
+unfoldable pub line : List ℕ → ℕ → List ℕ
+line word x = field word x ++ lineEnd
+
+-- `group FIRST LAST wait W`
+unfoldable pub groupLine : ℕ → ℕ → ℕ → List ℕ
+groupLine first last wait = field groupWord first ++ (field blank last ++ line waitWord wait)
+
+-- the lines of the groups in their order, each with its own wait
+unfoldable pub groupLines : List Path → List ℕ → List ℕ
+groupLines [] waits = []
+groupLines (g ∷ gs) waits = groupLine (g .first) (g .last) (headOf waits) ++ groupLines gs (tailOf waits)
+
+-- `bound B`, `start S`, `grid G`, and then other lines
+unfoldable pub figureLines : ℕ → ℕ → ℕ → List ℕ → List ℕ
+figureLines bound start grid others = line boundWord bound ++ (line startWord start ++ (line gridWord grid ++ others))
+
+-- `refused R at D`
+unfoldable pub refusalLine : ℕ → ℕ → List ℕ
+refusalLine number detail = field refusedWord number ++ line atWord detail
+
+-- the report of a verdict
+unfoldable pub textOf : Verdict → List ℕ
+textOf (refused j) = refusalLine (judgedNumber j) (judgedDetail j)
+textOf (bounded l) = figureLines (l .bound) (l .start) (l .grid) (groupLines (l .paths) (l .waits))
