@@ -37,6 +37,10 @@ put-four a b c d before at {first} {second} {third} {after} {p} {q} {r} {e} x y 
 pub put-long : (a before : List ℕ) (at : ℕ) {mid : List ℕ} {p : ℕ} → Puts a before at p mid → length mid ≡ length before
 put-long a before at {mid} {p} x = ap length (x .1) ∙ length-sets before at a
 
+-- where there was room for these bytes and for more, there is room for the others behind them
+pub room-behind : (a before : List ℕ) (at others : ℕ) {mid : List ℕ} {p : ℕ} → Puts a before at p mid → at + (length a + others) ≤ length before → p + others ≤ length mid
+room-behind a before at others {mid} {p} x h = omega (arith, x .0, put-long a before at x)
+
 -- the lines of the groups: what is left to put is the lines of the groups from i on
 pub record Filling (groups : List Flow) (waits : List ℕ) (n : ℕ) (first : List ℕ) (from : ℕ) (page : List ℕ) (at i : ℕ) : Type 0 where
   pub left : ℕ

@@ -1,8 +1,8 @@
 -- The record's text is the verdict's: both go by the same sheet and the same check of its row; and a sheet's text is short.
 -- Assumes nothing.
-use Prim.Native.Nat.{ℕ, zero, suc, _+_, _*_, _-_, _≤_}
-use mathlib.Core.Path.{_≡_, refl, sym, ap, _∙_}
-use mathlib.Core.Bool.{Bool, true, false, cond}
+use Prim.Native.Nat.{ℕ, zero, suc, _-_, _≤_}
+use mathlib.Core.Path.{_≡_, refl, ap}
+use mathlib.Core.Bool.{true, false}
 use mathlib.Core.List.{List, [], _∷_, _++_, map}
 use native.Mathlib.Omega.{arith}
 use lib.ListN.{length, replicate}
@@ -19,7 +19,7 @@ use Rattle.row.specs.OfSheetLaws.{passed-row}
 use Rattle.analysis.specs.declared.Judged.{Judged}
 use Rattle.analysis.specs.declared.Judged.the-variants.{Refused, Crossing, Crowded, Points, TooLarge, Bounded}
 use Rattle.analysis.specs.declared.Analysed.{Analysed}
-use Rattle.analysis.specs.Verdict.{Listing, Verdict, listingOf, judgedRow, verdictWhere, onSheet, verdictOf, judgedNumber, judgedDetail}
+use Rattle.analysis.specs.Verdict.{Listing, listingOf, judgedRow, verdictWhere, onSheet, verdictOf, judgedNumber, judgedDetail}
 use Rattle.analysis.specs.Held.{filled, heldWhere, judgedHeld, sheetHeld, analysedOf}
 use Rattle.listing.specs.Text.{groupLine, groupLines, figureLines, refusalLine, textOf}
 use Rattle.listing.specs.TextLaws.{groups-short, figures-short, refusal-short}

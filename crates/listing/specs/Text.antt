@@ -6,7 +6,7 @@ use mathlib.Core.List.{List, [], _∷_, _++_}
 use Rattle.text.specs.Decimal.{decimal}
 use Rattle.row.specs.Tandem.{Path}
 use Rattle.tree.specs.Plan.{headOf, tailOf}
-use Rattle.analysis.specs.Verdict.{Listing, Verdict, refused, bounded, judgedNumber, judgedDetail}
+use Rattle.analysis.specs.Verdict.{Verdict, refused, bounded, judgedNumber, judgedDetail}
 
 -- "bound "
 abbrev pub boundWord : List ℕ

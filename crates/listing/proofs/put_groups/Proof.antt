@@ -6,7 +6,6 @@ use mathlib.Core.Path.{_≡_}
 use native.Mathlib.Omega.{arith}
 use lib.ListN.{length, length-map}
 use Rattle.listing.proofs.Putting.{Filling, begin-filling, fits, turn-filling, filled}
-use borrow.Author.Needs.{needs}
 use Rattle.listing.proofs.put_groups.Statement.{statement}
 use Rattle.listing.proofs.put_groups.Tie as tie
 
