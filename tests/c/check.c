@@ -1,120 +1,17 @@
-/* Holds the two entries beside an implementation of document 01 in plain C, over generated inputs from a fixed seed.
+/* Holds the reader and the writer beside an implementation of document 01 in plain C, over generated inputs from a fixed seed.
  * Input stands right before memory that may not be touched; a buffer stands between guards, in a pattern of its own for each case.
  * Prints one line; on the first disagreement the input in hex with both answers, and exits with 1. */
-#define _DEFAULT_SOURCE
 #include "../../include/gullbiscuit.h"
+#include "beside.h"
 #include "plain.h"
 
 #include <stdio.h>
 #include <stdlib.h>
 #include <string.h>
-#include <sys/mman.h>
-#include <unistd.h>
-
-enum { GUARD = 64, MOST_ROOM = 4096, MOST_INPUT = 1 << 20 };
-
-static uint64_t cases;
-
-/* The generator: splitmix64. */
-static uint64_t state = 20231115;
-
-static uint64_t rnd(void)
-{
-    uint64_t z = (state += 0x9e3779b97f4a7c15u);
-    z = (z ^ (z >> 30)) * 0xbf58476d1ce4e5b9u;
-    z = (z ^ (z >> 27)) * 0x94d049bb133111ebu;
-    return z ^ (z >> 31);
-}
-
-static uint32_t between(uint32_t low, uint32_t high)
-{
-    return low + (uint32_t)(rnd() % ((uint64_t)high - low + 1));
-}
-
-/* Memory of which the bytes just before its end may be touched and those behind may not. */
-static uint8_t *fence_end;
-
-static void make_fence(void)
-{
-    size_t page = (size_t)sysconf(_SC_PAGESIZE);
-    size_t size = (MOST_INPUT / page + 2) * page;
-    uint8_t *p = mmap(NULL, size + page, PROT_READ | PROT_WRITE, MAP_PRIVATE | MAP_ANONYMOUS, -1, 0);
-    if (p == MAP_FAILED || mprotect(p + size, page, PROT_NONE) != 0) {
-        perror("check: no memory for the inputs");
-        exit(2);
-    }
-    fence_end = p + size;
-}
-
-/* One call's buffer: what it held before, what the entry made of it and what the plain version did. */
-struct buffer {
-    uint8_t before[2 * GUARD + MOST_ROOM];
-    uint8_t theirs[2 * GUARD + MOST_ROOM];
-    uint8_t plain[2 * GUARD + MOST_ROOM];
-    size_t size;
-};
-
-static _Alignas(64) struct buffer buf;
-
-static void fill(size_t room)
-{
-    buf.size = 2 * GUARD + room;
-    uint64_t x = rnd() | 1;
-    for (size_t i = 0; i < buf.size; i += 8) {
-        memcpy(buf.before + i, &x, 8);
-        x = x * 6364136223846793005u + 1442695040888963407u;
-    }
-    memcpy(buf.theirs, buf.before, buf.size);
-    memcpy(buf.plain, buf.before, buf.size);
-}
-
-static void show(const char *what, const uint8_t *bytes, size_t n)
-{
-    printf("%s (%zu bytes):", what, n);
-    for (size_t i = 0; i < n && i < 2048; i++)
-        printf(" %02x", bytes[i]);
-    printf(n > 2048 ? " ..\n" : "\n");
-}
-
-static void disagree(const char *entry, const char *why, const uint8_t *input, size_t n, size_t room, uint64_t got, uint64_t want)
-{
-    printf("check: case %llu: %s: %s\n", (unsigned long long)cases, entry, why);
-    show("input", input, n);
-    printf("room: %zu\n", room);
-    printf("the entry:  refusal %u detail %u\n", gullbiscuit_refusal(got), gullbiscuit_detail(got));
-    printf("plain C:    refusal %u detail %u\n", gullbiscuit_refusal(want), gullbiscuit_detail(want));
-    show("before", buf.before, buf.size);
-    show("the entry", buf.theirs, buf.size);
-    show("plain C", buf.plain, buf.size);
-    exit(1);
-}
-
-/* What both calls gave and left: the same; nothing changed on refusal; nothing but the written front changed on success. */
-static void compare(const char *entry, const uint8_t *input, const uint8_t *kept, size_t n, size_t room, size_t unit, uint64_t got, uint64_t want)
-{
-    cases++;
-    const char *why = NULL;
-    size_t written = gullbiscuit_refusal(got) == GULLBISCUIT_DONE ? gullbiscuit_detail(got) * unit : 0;
-    if (got != want)
-        why = "the answers differ";
-    else if (memcmp(input, kept, n) != 0)
-        why = "the input was changed";
-    else if (memcmp(buf.theirs, buf.plain, buf.size) != 0)
-        why = "the buffers differ";
-    else if (written > room * unit)
-        why = "more was written than there is room for";
-    else if (memcmp(buf.theirs, buf.before, GUARD) != 0)
-        why = "bytes in front of the buffer were changed";
-    else if (memcmp(buf.theirs + GUARD + written, buf.before + GUARD + written, buf.size - GUARD - written) != 0)
-        why = "bytes past the length were changed";
-    if (why != NULL)
-        disagree(entry, why, kept, n, room, got, want);
-}
 
 static uint64_t read_case(const uint8_t *bytes, size_t n, size_t room)
 {
-    uint8_t *input = fence_end - n;
-    memcpy(input, bytes, n);
+    uint8_t *input = lay(bytes, n);
     fill(room * 4);
     uint64_t got = gullbiscuit_read_sheet(input, n, (uint32_t *)(void *)(buf.theirs + GUARD), room);
     uint64_t want = plain_read_sheet(bytes, n, (uint32_t *)(void *)(buf.plain + GUARD), room);
@@ -124,8 +21,7 @@ static uint64_t read_case(const uint8_t *bytes, size_t n, size_t room)
 
 static uint64_t write_case(const uint32_t *list, size_t n, size_t room)
 {
-    uint8_t *input = fence_end - 4 * n;
-    memcpy(input, list, 4 * n);
+    uint8_t *input = lay((const uint8_t *)list, 4 * n);
     fill(room);
     uint64_t got = gullbiscuit_write_sheet((const uint32_t *)(void *)input, n, buf.theirs + GUARD, room);
     uint64_t want = plain_write_sheet(list, n, buf.plain + GUARD, room);
@@ -312,14 +208,6 @@ static void spoil_write(const struct sheet *s)
     }
 }
 
-static void expect(int holds, const char *what)
-{
-    if (!holds) {
-        printf("check: %s\n", what);
-        exit(1);
-    }
-}
-
 static void check_read(void)
 {
     struct sheet s;
@@ -474,7 +362,7 @@ static void check_write(void)
 
 int main(void)
 {
-    make_fence();
+    begin("check");
     check_read();
     uint64_t reads = cases;
     check_write();
