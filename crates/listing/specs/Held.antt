@@ -6,10 +6,8 @@ use mathlib.Core.List.{List, [], _∷_, _++_}
 use lib.ListN.{drop}
 use Rattle.row.specs.declared.Flow.{Flow}
 use Rattle.tree.specs.Plan.{headOf, tailOf}
-use Rattle.analysis.specs.declared.Judged.{Judged}
-use Rattle.analysis.specs.declared.Judged.the-variants.{Refused, Crossing, Crowded, Points, TooLarge, Bounded}
 use Rattle.analysis.specs.declared.Analysed.{Analysed}
-use Rattle.analysis.specs.Verdict.{judgedNumber, judgedDetail}
+use Rattle.analysis.specs.Verdict.{isBounded, judgedNumber, judgedDetail}
 use Rattle.listing.specs.Text.{groupLine, figureLines, refusalLine}
 
 -- the lines of the first n of these groups and waits
@@ -24,14 +22,6 @@ groupsHeld a = linesOf (a .count) (drop 1 (a .groups)) (a .waits)
 
 abbrev pub listingHeld : Analysed → List ℕ
 listingHeld a = figureLines (a .bound) (a .start) (a .grid) (groupsHeld a)
-
-abbrev pub isBounded : Judged → Bool
-isBounded (Refused w d) = false
-isBounded Crossing = false
-isBounded (Crowded j) = false
-isBounded (Points n) = false
-isBounded TooLarge = false
-isBounded Bounded = true
 
 unfoldable pub textHeld : Analysed → List ℕ
 textHeld a = cond (isBounded (a .judged)) (listingHeld a) (refusalLine (judgedNumber (a .judged)) (judgedDetail (a .judged)))

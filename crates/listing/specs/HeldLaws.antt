@@ -19,11 +19,11 @@ use Rattle.row.specs.OfSheetLaws.{passed-row}
 use Rattle.analysis.specs.declared.Judged.{Judged}
 use Rattle.analysis.specs.declared.Judged.the-variants.{Refused, Crossing, Crowded, Points, TooLarge, Bounded}
 use Rattle.analysis.specs.declared.Analysed.{Analysed}
-use Rattle.analysis.specs.Verdict.{Listing, listingOf, judgedRow, verdictWhere, onSheet, verdictOf, judgedNumber, judgedDetail}
+use Rattle.analysis.specs.Verdict.{isBounded, Listing, listingOf, judgedRow, verdictWhere, onSheet, verdictOf, judgedNumber, judgedDetail}
 use Rattle.analysis.specs.Held.{filled, heldWhere, judgedHeld, sheetHeld, analysedOf}
 use Rattle.listing.specs.Text.{groupLine, groupLines, figureLines, refusalLine, textOf}
 use Rattle.listing.specs.TextLaws.{groups-short, figures-short, refusal-short}
-use Rattle.listing.specs.Held.{linesOf, groupsHeld, listingHeld, isBounded, textHeld}
+use Rattle.listing.specs.Held.{linesOf, groupsHeld, listingHeld, textHeld}
 
 -- the record's text, by whether the listing stands
 pub held-listing : (a : Analysed) → isBounded (a .judged) ≡ true → textHeld a ≡ listingHeld a

@@ -4,11 +4,10 @@ ghost use Prim.Native.Nat.{_+_, _≤_};
 ghost use lib.ListN.{length};
 ghost use lib.Seq.{sets};
 ghost use Rattle.sheet.specs.Sheet.{holds};
-ghost use Rattle.analysis.specs.Verdict.{verdictOf, judgedNumber, judgedDetail};
+ghost use Rattle.analysis.specs.Verdict.{verdictOf};
 ghost use Rattle.listing.specs.Text.{field, line, groupLine, refusalLine, textOf};
-ghost use Rattle.listing.specs.Held.{groupsHeld, listingHeld, isBounded, textHeld};
+ghost use Rattle.listing.specs.Held.{groupsHeld, listingHeld, textHeld};
 use analysis::Analysed;
-use analysis::Judged;
 
 // Writes a word and behind it a number at a place of a page that has room for them there, and gives the place behind them.
 fn put_field(word: &[u8], x: u64, page: &mut [u8], at: usize) -> usize
@@ -82,48 +81,6 @@ fn put_refusal(number: u32, detail: usize, page: &mut [u8]) -> usize
     put_line(b" at ", detail as u64, page, behind)
 }
 
-// Whether the listing stands.
-fn is_bounded(judged: Judged) -> bool
-    ensures { λ r. ⌜ r ≡ isBounded judged ⌝ }
-{
-    match judged {
-        Judged::Refused(_, _) => false,
-        Judged::Crossing => false,
-        Judged::Crowded(_) => false,
-        Judged::Points(_) => false,
-        Judged::TooLarge => false,
-        Judged::Bounded => true,
-    }
-}
-
-// Document 01's number of a refusal.
-fn number_of(judged: Judged) -> u32
-    ensures { λ r. ⌜ r ≡ judgedNumber judged ⌝ }
-{
-    match judged {
-        Judged::Refused(why, _) => sheet::refusal_of(why),
-        Judged::Crossing => 6,
-        Judged::Crowded(_) => 7,
-        Judged::Points(_) => 8,
-        Judged::TooLarge => 9,
-        Judged::Bounded => 0,
-    }
-}
-
-// A refusal's detail.
-fn detail_of(judged: Judged) -> usize
-    ensures { λ r. ⌜ r ≡ judgedDetail judged ⌝ }
-{
-    match judged {
-        Judged::Refused(_, at) => at,
-        Judged::Crossing => 0,
-        Judged::Crowded(j) => j,
-        Judged::Points(n) => n,
-        Judged::TooLarge => 0,
-        Judged::Bounded => 0,
-    }
-}
-
 // Writes what an analysis says over the front of a page.
 fn put_text(found: Analysed, page: &mut [u8]) -> usize
     requires few { ⌜ found .count ≤ 31 ⌝ }
@@ -132,10 +89,14 @@ fn put_text(found: Analysed, page: &mut [u8]) -> usize
     ensures holds { λ _. ⌜ now (page .exit) ≡ sets (now (page .entry)) 0 (textHeld found) ⌝ }
 {
     let judged = found.judged;
-    if is_bounded(judged) {
+    if analysis::is_bounded(judged) {
         return put_listing(found, page);
     }
-    put_refusal(number_of(judged), detail_of(judged), page)
+    put_refusal(
+        analysis::number_of(judged),
+        analysis::detail_of(judged),
+        page,
+    )
 }
 
 // Writes the report of a sheet over the front of a lent buffer, and gives its length. Where the buffer is too short for it, the buffer
