@@ -11,11 +11,6 @@ unfoldable pub keep : {B : Type 0} → (B → Bool) → List B → List B
 keep p [] = []
 keep p (x ∷ xs) = put (p x) x (keep p xs)
 
--- every element has a property
-abbrev pub Each : {B : Type 0} → (B → Type 0) → List B → Type 0
-Each P [] = Unit {0}
-Each P (x ∷ xs) = P x × Each P xs
-
 -- ""By slot t" means in slots 1..t; by slot 0 nothing has arrived and nothing has left.": what stands in slots 1 to t, one slot after the
 -- other. Slot 0 holds nothing, whatever the record has there, so every line starts empty.
 unfoldable pub by : {B : Type 0} → (ℕ → List B) → ℕ → List B

@@ -14,7 +14,8 @@ use Rattle.curves.specs.SlotsLaws.{le-or-lt}
 use Rattle.row.specs.Sums.{weigh, total}
 use Rattle.row.specs.Groups.{put}
 use Rattle.row.specs.SumLaws.{total-mono, total-add, total-at}
-use Rattle.runs.specs.Lines.{keep, Each, by, Prefix}
+use Rattle.tree.specs.Searched.{Each}
+use Rattle.runs.specs.Lines.{keep, by, Prefix}
 
 module _ {B : Type 0} where
   put-append : (b : Bool) (x : B) (l m : List B) → put b x (l ++ m) ≡ put b x l ++ m

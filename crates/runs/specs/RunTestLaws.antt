@@ -14,7 +14,8 @@ use Rattle.curves.specs.SlotsLaws.{le-or-lt}
 use Rattle.row.specs.Tandem.{Tandem, size, server, crosses}
 use Rattle.row.specs.TestLaws.{both-true, or-left, or-right, or-cases}
 use Rattle.row.specs.SumLaws.{any-found}
-use Rattle.runs.specs.Lines.{keep, Each, Prefix}
+use Rattle.tree.specs.Searched.{Each}
+use Rattle.runs.specs.Lines.{keep, Prefix}
 use Rattle.runs.specs.Run.{Run, joinedBy, leftBy, OnPath, InOrder, Relayed, KeepsBuckets, Guarantees, Keeps}
 use Rattle.runs.specs.RunTests.{each, eachOf, begins, same, has, onPath, inOrder, relayed, keepsBuckets, guarantees, keepsAll}
 

@@ -21,7 +21,8 @@ use Rattle.row.specs.TestLaws.{or-left, or-right}
 use Rattle.row.specs.SumLaws.{total-or}
 use Rattle.row.specs.TandemLaws.{on-is}
 use Rattle.tree.specs.StretchLaws.{spans, ends-in-row, curve-rates}
-use Rattle.runs.specs.Lines.{keep, Each, by, Prefix}
+use Rattle.tree.specs.Searched.{Each}
+use Rattle.runs.specs.Lines.{keep, by, Prefix}
 use Rattle.runs.specs.Run.{Run, Keeps, Bucketed}
 use Rattle.runs.specs.Served.{Serves, past, among, come, gone, Good}
 use Rattle.runs.specs.LinesLaws.{keep-keep, keep-all, keep-or, keep-length-mono, by-prefix, by-each, by-same, each-prefix, each-map}

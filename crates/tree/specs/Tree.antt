@@ -1,7 +1,7 @@
 -- The nesting tree of a row (document 01, "Groups, tree and grid"): "the root is the watched flow. A group's parent is the smallest group
 -- whose path contains its own, else the root." The groups' order, first server and then longer path first, is the tree in preorder: what
 -- is inside a group follows it directly. So at each server of a path stands the first group behind it in the order that begins there,
--- which is the longest, and the path goes on behind that group's last server; where none begins stands the server itself. NestedLaws.antt
+-- which is the longest, and the path goes on behind that group's last server; where none begins stands the server itself. ParentLaws.antt
 -- proves that these are document 01's parents.
 -- Assumes nothing.
 use Prim.Native.Nat.{ℕ, zero, suc}
