@@ -21,7 +21,7 @@ pub struct Curve {
 
 impl Stage {
     // The slots until the stage has `sigma` bytes, or `most` if that is more.
-    fn catch_up(self, sigma: u64, most: u64) -> u64
+    pub fn catch_up(self, sigma: u64, most: u64) -> u64
         requires { ⌜ Live self × (sigma < 2 ^ 40) × (most ≤ sigma) ⌝ }
         ensures { λ r. ⌜ r ≡ max most (catchUp sigma self) ⌝ }
     {
@@ -33,7 +33,7 @@ impl Stage {
     }
 
     // What a group leaves of the stage, `gap` slots after the curve's offset.
-    fn after(self, sigma: u64, rho: u64, gap: u64) -> Stage
+    pub fn after(self, sigma: u64, rho: u64, gap: u64) -> Stage
         requires { ⌜ Leaves sigma rho gap self ⌝ }
         ensures { λ r. ⌜ r ≡ after sigma rho gap self ⌝ }
     {
