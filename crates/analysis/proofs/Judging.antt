@@ -1,12 +1,11 @@
 -- What the analysis finds at each step: the numbers that were read, the row that was formed, and the listing of a row that passed.
 -- Assumes nothing.
-use Prim.Native.Nat.{ℕ, _+_, _-_, _≤_, _<_}
+use Prim.Native.Nat.{ℕ, _-_, _≤_}
 use mathlib.Core.Path.{_≡_, refl, sym, ap, _∙_}
-use mathlib.Core.Bool.{Bool, true, false, cond}
+use mathlib.Core.Bool.{false}
 use mathlib.Core.List.{List}
 use native.Mathlib.Omega.{arith}
 use lib.ListN.{length, take}
-use lib.Seq.{length-take-le}
 use Rattle.sheet.specs.declared.Outcome.{Outcome}
 use Rattle.sheet.specs.declared.Outcome.the-variants as outcome
 use Rattle.sheet.specs.declared.Why.{Why}
@@ -17,8 +16,6 @@ use Rattle.sheet.specs.TripLaws.{WasDone, read-done, read-valid, gives-room, ho
 use Rattle.row.specs.declared.Formed.{Formed}
 use Rattle.row.specs.declared.Check.{Check}
 use Rattle.row.specs.declared.Check.the-variants as check
-use Rattle.row.specs.declared.Row.{Row}
-use Rattle.row.specs.Tandem.{Tandem}
 use Rattle.row.specs.Groups.{groups}
 use Rattle.row.specs.OfSheet.{tandemOf, gridOf, rowOf, checkOf, rowWhere, formedOf}
 use Rattle.row.specs.OfSheetLaws.{passed-row}
@@ -28,10 +25,10 @@ use Rattle.tree.specs.Bound as tree
 use Rattle.search.specs.Point.{searched}
 use Rattle.search.specs.Searchable.{Searchable}
 use Rattle.analysis.specs.declared.Judged.{Judged}
-use Rattle.analysis.specs.declared.Judged.the-variants.{Refused, Crossing, Crowded, Points, TooLarge, Bounded}
+use Rattle.analysis.specs.declared.Judged.the-variants.{Refused}
 use Rattle.analysis.specs.declared.Analysed.{Analysed}
 use Rattle.analysis.specs.Verdict.{listingOf, judgedRow}
-use Rattle.analysis.specs.Held.{blank, filled, rowHeld, heldWhere, judgedHeld, analysedOf}
+use Rattle.analysis.specs.Held.{blank, filled, rowHeld, heldWhere, judgedHeld}
 use Rattle.analysis.specs.SearchLaws.{search-is-searched, searchable, grid-held, count-held}
 
 -- what was formed of a sheet's numbers

@@ -2,15 +2,14 @@
 -- Assumes nothing.
 use Prim.Native.Nat.{ℕ}
 use mathlib.Core.Bool.{Bool, true, false, cond}
-use mathlib.Core.List.{List, [], _∷_}
+use mathlib.Core.List.{List, _∷_}
 use lib.ListN.{length}
-use Rattle.sheet.specs.declared.Why.{Why}
 use Rattle.sheet.specs.Refusal.{refusal}
 use Rattle.sheet.specs.Sheet.{Found, fail, these, sheetOf, encodeAll}
 use Rattle.sheet.specs.Valid.{serverCount, mode, grid}
 use Rattle.row.specs.declared.Check.{Check}
 use Rattle.row.specs.declared.Check.the-variants as check
-use Rattle.row.specs.Tandem.{Tandem, Path}
+use Rattle.row.specs.Tandem.{Path}
 use Rattle.row.specs.Groups.{groups}
 use Rattle.row.specs.OfSheet.{tandemOf, gridOf, checkOf}
 use Rattle.tree.specs.Bound.{searched}

@@ -1,13 +1,12 @@
 -- What the analysis holds is the verdict: a refusal, or the listing of a sheet that passes; and the numbers of both are small.
 -- Assumes nothing.
-use Prim.Native.Nat.{ℕ, zero, suc, _+_, _^_, _≤_, _<_}
-use mathlib.Core.Path.{_≡_, refl, sym, ap, _∙_}
-use mathlib.Core.Bool.{Bool, true, false, cond}
+use Prim.Native.Nat.{ℕ, _^_, _≤_, _<_}
+use mathlib.Core.Path.{_≡_, refl, ap, _∙_}
+use mathlib.Core.Bool.{true, false}
 use mathlib.Core.Logic.{_⊎_, inl, inr}
-use mathlib.Core.List.{List, [], _∷_}
+use mathlib.Core.List.{List}
 use native.Mathlib.Omega.{arith}
-use lib.Dec.{ltb}
-use lib.ListN.{length, getD, replicate}
+use lib.ListN.{length, getD}
 use Rattle.sheet.specs.declared.Why.{Why}
 use Rattle.sheet.specs.Sheet.{Found, fail, these, sheetOf}
 use Rattle.sheet.specs.Valid.{serverCount, mode, grid, Valid}
@@ -22,18 +21,15 @@ use Rattle.row.specs.OfSheetLaws.{row-size, limits, accepted, passed-row, cross
 use Rattle.row.specs.Checks.{notNested, lowestCrowded, tooMany}
 use Rattle.row.specs.CheckLaws.{crowded-lowest}
 use Rattle.row.specs.TestLaws.{decide, le-or-lt}
-use Rattle.tree.specs.Grid.{Answer, foundOf}
+use Rattle.tree.specs.Grid.{Answer}
 use Rattle.tree.specs.Bound.{answerAt, searched}
-use Rattle.tree.specs.GridLaws.{start-is, found-at}
-use Rattle.tree.specs.SizeLaws.{start-small}
+use Rattle.tree.specs.GridLaws.{found-at}
 use Rattle.tree.specs.SearchLaws.{answer-waits, searched-le-start, searched-start-small, searched-wait-le}
-use Rattle.tree.specs.Large.{tooLarge}
 use Rattle.tree.specs.LargeLaws.{never-too-large}
 use Rattle.analysis.specs.declared.Judged.{Judged}
-use Rattle.analysis.specs.declared.Judged.the-variants.{Refused, Crossing, Crowded, Points, TooLarge, Bounded}
-use Rattle.analysis.specs.declared.Analysed.{Analysed}
-use Rattle.analysis.specs.Verdict.{Listing, gridUsed, listingOf, judgedRow, Verdict, refused, bounded, verdictWhere, verdictOf, judgedDetail, isBounded}
-use Rattle.analysis.specs.Held.{blank, filled, heldWhere, judgedHeld, analysedOf}
+use Rattle.analysis.specs.declared.Judged.the-variants.{Refused, Crossing, Crowded, Points}
+use Rattle.analysis.specs.Verdict.{Listing, gridUsed, listingOf, refused, bounded, verdictOf, judgedDetail, isBounded}
+use Rattle.analysis.specs.Held.{blank, filled, judgedHeld, analysedOf}
 use Rattle.analysis.specs.SearchLaws.{grid-held}
 
 -- the detail of a check that is not passed is small

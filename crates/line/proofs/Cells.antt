@@ -9,7 +9,7 @@ use native.Mathlib.Omega.{arith}
 use lib.ListN.{length, getD, set, length-set}
 use lib.Seq.{getD-set-same, getD-set-other}
 use Rattle.curves.specs.declared.Stage.{Stage}
-use Rattle.curves.specs.Curve.{All, greatest, catchUp, leastWait, delay, after}
+use Rattle.curves.specs.Curve.{All, greatest, catchUp, leastWait, after}
 use Rattle.curves.specs.Held.{Leaves}
 use Rattle.curves.specs.SlotsLaws.{le-or-lt}
 use Rattle.line.specs.Cells.{cellAt, stagesFrom, sumFrom, curveFrom, Left, Pooled}

@@ -9,20 +9,20 @@ use Prim.Native.Nat.{ℕ, zero, suc, _+_, _-_, _≤_, _<_}
 use native.Mathlib.Omega.{arith}
 use borrow.Author.Tests.{eqb-true, eqb-false}
 use lib.Dec.{eqb}
-use lib.ListN.{length, take, drop, getD, set, replicate, take-append-drop, drop-of-length-le, length-map}
-use lib.Seq.{drop-cons, take-suc, set-at, length-take-le}
-use Rattle.curves.specs.Curve.{Shape, after, remainder, delay, leastWait, server}
+use lib.ListN.{length, take, drop, getD, set, replicate, take-append-drop, drop-of-length-le}
+use lib.Seq.{drop-cons}
+use Rattle.curves.specs.Curve.{Shape, after, remainder, delay, server}
 use Rattle.row.specs.declared.Server.{Server}
 use Rattle.row.specs.declared.Flow.{Flow}
 use Rattle.row.specs.OfSheetLaws.{length-listed, listed-at}
-use Rattle.tree.specs.Plan.{Node, Top, alone, over, topOf, serverCurve, nodeOf, plan}
+use Rattle.tree.specs.Plan.{Top, alone, over, topOf, serverCurve, nodeOf, plan}
 use Rattle.tree.specs.Searched.{Each}
 use Rattle.line.specs.declared.Line.{Line}
 use Rattle.line.specs.Answer.{noFlow, waitsOf, answerOf, Placed, After, Ordered}
 use Rattle.line.specs.Line.{serverAt, serversIn}
-use Rattle.line.specs.Cells.{cellAt, stagesFrom, sumFrom, curveFrom, Left, Pooled}
+use Rattle.line.specs.Cells.{curveFrom, Left, Pooled}
 use Rattle.line.proofs.Nodes.{planFrom, curveAt, nodeAt, plan-at, plan-length}
-use Rattle.line.proofs.Tiles.{Border, Runs, Begins, begins, Tile, Tiled, curve-is, same-curve, left-curve, each-map}
+use Rattle.line.proofs.Tiles.{Begins, begins, Tile, Tiled, curve-is, same-curve, left-curve, each-map}
 
 -- flows from k on, in order and placed
 

@@ -9,15 +9,15 @@ use mathlib.Core.List.{List, [], _∷_, _++_, map}
 use Prim.Native.Nat.{ℕ, zero, suc, _+_, _-_, _≤_, _<_}
 use native.Mathlib.Omega.{arith}
 use borrow.Author.Tests.{lt-ltb, le-ltb, eqb-true, eqb-false}
-use lib.Dec.{ltb, eqb}
+use lib.Dec.{eqb}
 use lib.ListN.{length, getD}
 use Rattle.curves.specs.declared.Stage.{Stage}
-use Rattle.curves.specs.Curve.{Shape, neutral, joined, after, remainder}
+use Rattle.curves.specs.Curve.{Shape, neutral, joined, after}
 use Rattle.curves.specs.SlotsLaws.{le-or-lt}
 use Rattle.curves.specs.JoinLaws.{joined-neutral, neutral-joined, joined-assoc}
 use Rattle.row.specs.declared.Server.{Server}
 use Rattle.row.specs.declared.Flow.{Flow}
-use Rattle.tree.specs.Plan.{Node, Top, alone, over, topOf, serverCurve, pieceOn, along, nodeCurve}
+use Rattle.tree.specs.Plan.{Node, Top, alone, over, topOf, serverCurve, along, nodeCurve}
 use Rattle.tree.specs.Searched.{Each}
 use Rattle.line.specs.Answer.{Placed, After, Ordered}
 use Rattle.line.specs.Cells.{cellAt, stagesFrom, sumFrom, curveFrom, Left, Pooled}
@@ -55,7 +55,7 @@ stages-append bs rs i (suc m) n =
     let f : suc m + n ≡ suc (m + n) = omega arith in
     rw (e, f) (ap (λ (l : List Stage). cellAt bs rs i ∷ l) (stages-append bs rs (suc i) m n))
 
-sum-append : (sh : List ℕ) (i m n : ℕ) → sumFrom sh i (m + n) ≡ sumFrom sh i m + sumFrom sh (i + m) n
+pub sum-append : (sh : List ℕ) (i m n : ℕ) → sumFrom sh i (m + n) ≡ sumFrom sh i m + sumFrom sh (i + m) n
 sum-append sh i zero n =
     let e : i + 0 ≡ i = omega arith in
     let f : 0 + n ≡ n = omega arith in

@@ -6,7 +6,7 @@ use mathlib.Core.List.{List, _∷_, _++_}
 use Prim.Native.Nat.{ℕ, suc, _+_, _-_, _*_, _≤_, _<_}
 use native.Mathlib.Omega.{arith}
 use lib.ListN.{length, take, drop, getD, set}
-use Rattle.curves.specs.Curve.{Shape, All, Rates, leastWait, delay}
+use Rattle.curves.specs.Curve.{Shape, All, leastWait, delay}
 use Rattle.curves.specs.Held.{Live}
 use Rattle.row.specs.declared.Server.{Server}
 use Rattle.row.specs.declared.Flow.{Flow}
@@ -16,7 +16,7 @@ use Rattle.tree.specs.Fine.{Fine}
 use Rattle.line.specs.declared.Line.{Line}
 use Rattle.line.specs.Answer.{noFlow, answerOf, Placed, Workable}
 use Rattle.line.specs.Line.{flowAt, serversIn, flowsIn}
-use Rattle.line.specs.Cells.{stagesFrom, sumFrom, curveFrom, Left, Pooled, Held, Takes}
+use Rattle.line.specs.Cells.{curveFrom, Left, Pooled, Held, Takes}
 use Rattle.line.proofs.Nodes.{curveAt, nodeAt, extra-at, fine-at}
 use Rattle.line.proofs.Cells.{left-by}
 use Rattle.line.proofs.Settling.{Settled, settled-curve, placed-at, settled-more, settled-root}

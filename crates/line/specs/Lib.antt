@@ -1,3 +1,4 @@
 pub mod Answer
+pub mod OrderLaws
 pub mod Line
 pub mod Cells

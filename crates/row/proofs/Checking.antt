@@ -1,23 +1,16 @@
--- The turns of the loops over flows and servers: one flow more is tested or added, one server more is passed.
+-- The turns of the loops over flows and servers: one flow more is tested, one server more is passed.
 -- Assumes nothing.
 use mathlib.Core.Path.{_≡_, refl, sym, ap, _∙_}
-use mathlib.Core.Bool.{Bool, true, false, _&&_}
-use lib.Dec.{leb}
-use mathlib.Core.List.{List}
+use mathlib.Core.Bool.{Bool, true, false}
 use Prim.Native.Nat.{ℕ, suc, _+_, _-_, _*_, _^_, _≤_, _<_}
 use native.Mathlib.Numerals.{add-one}
 use native.Mathlib.Omega.{arith}
 use native.Mathlib.Nat.{pow-suc, pow-le-pow-right, mul-le-mul}
-use lib.ListN.{length}
-use borrow.Author.Tests.{lt-ltb}
 use Rattle.row.specs.declared.Flow.{Flow}
-use Rattle.row.specs.Sums.{weigh, total, any}
-use Rattle.row.specs.Tandem.{Tandem, flow, crosses}
+use Rattle.row.specs.Sums.{any}
+use Rattle.row.specs.Tandem.{Tandem, flow}
 use Rattle.row.specs.Checks.{overlaps, crowded, lowestCrowded}
-use Rattle.sheet.specs.Valid.{Valid}
-use Rattle.row.specs.OfSheet.{tandemOf}
-use Rattle.row.specs.OfSheetLaws.{ranged}
-use Rattle.row.specs.Parts.{overlapping, share}
+use Rattle.row.specs.Parts.{overlapping}
 
 pub any-none : (p : ℕ → Bool) → any 0 p ≡ false
 unfolding any
@@ -27,31 +20,9 @@ pub any-more : (n : ℕ) (p : ℕ → Bool) → any n p ≡ false → p n ≡ fa
 unfolding any
 any-more n p h k = rw (add-one n, h, k)
 
-pub total-none : (g : ℕ → ℕ) → 0 ≡ total 0 g
-unfolding total
-total-none g = refl
-
-pub total-more : (n : ℕ) (g : ℕ → ℕ) (s x : ℕ) → s ≡ total n g → x ≡ g n → s + x ≡ total (n + 1) g
-unfolding total
-total-more n g s x h k = rw (add-one n) (omega arith)
-
 pub overlaps-are : (row : Tandem) (f h : ℕ) (a b : Flow) (t : Bool) → a ≡ flow row f → b ≡ flow row h → t ≡ overlapping a b → overlaps row f h ≡ t
 unfolding overlaps
 overlaps-are row f h a b t p q k = sym (k ∙ ap (λ (z : Flow). overlapping z b) p ∙ ap (λ (z : Flow). overlapping (flow row f) z) q)
-
-pub share-is : (row : Tandem) (f j : ℕ) (a : Flow) → f < length (row .flows) → a ≡ flow row f → share a j ≡ weigh (crosses row f j) (flow row f .rate)
-unfolding crosses
-share-is row f j a h e = ap (λ (z : Flow). share z j) e ∙ rw (lt-ltb f (length (row .flows)) h)
-
-pub share-most : (a : Flow) (j : ℕ) → share a j ≤ a .rate
-share-most a j = weighed (leb (a .first) j && leb j (a .last)) (a .rate)
-  where
-    weighed : (b : Bool) (x : ℕ) → weigh b x ≤ x
-    weighed true x = omega arith
-    weighed false x = omega arith
-
-pub share-small : (xs : List ℕ) → Valid xs → (f j x : ℕ) (a : Flow) → f < length (tandemOf xs .flows) → a ≡ flow (tandemOf xs) f → x ≡ share a j → x ≤ 65535
-share-small xs v f j x a h e k = omega (arith, k, share-most a j, ap (λ (z : Flow). z .rate) e, ranged xs v f h .small-rate)
 
 module _ (row : Tandem) (n j : ℕ) where
   pub lowest-here : j ≤ n → crowded row j ≡ true → lowestCrowded row j (n + 1 - j) ≡ j

@@ -26,7 +26,7 @@ amount-most : (b : Bool) (a : Flow) → a .burst ≤ 65535 → a .rate ≤ 65535
 amount-most true a h k = k
 amount-most false a h k = h
 
-weigh-most : (b : Bool) (x : ℕ) → weigh b x ≤ x
+pub weigh-most : (b : Bool) (x : ℕ) → weigh b x ≤ x
 weigh-most true x = omega arith
 weigh-most false x = omega arith
 

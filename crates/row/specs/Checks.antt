@@ -1,11 +1,11 @@
 -- Refusals 6, 7 and 8 (document 01, "Refusals by number") as tests of a row. CheckLaws.antt proves each equivalent to its sentence.
 -- Assumes nothing.
 use Prim.Native.Nat.{ℕ, zero, suc, _^_}
-use mathlib.Core.Bool.{Bool, true, false, cond, _&&_}
+use mathlib.Core.Bool.{Bool, cond, _&&_}
 use lib.Dec.{leb, ltb, eqb}
 use lib.ListN.{length}
 use Rattle.row.specs.Sums.{any}
-use Rattle.row.specs.Tandem.{Tandem, size, server, flow, crosses, rates}
+use Rattle.row.specs.Tandem.{Tandem, server, flow, crosses, rates}
 use Rattle.row.specs.Groups.{groups}
 
 -- the path of flow h begins inside that of flow f, behind its first server, and ends behind it: i < h ≤ j < k

@@ -1,6 +1,6 @@
 -- The steps on the way from a sheet's numbers to its row, as the functions of src/lib.rt take them.
 -- Assumes nothing.
-use Prim.Native.Nat.{ℕ, zero, suc, _+_, _-_, _*_, _/_, _%_, _<_}
+use Prim.Native.Nat.{ℕ, zero, suc, _+_, _-_, _*_, _/_, _%_, _≤_, _<_}
 use mathlib.Core.Path.{_≡_}
 use mathlib.Core.Bool.{Bool, true, false, _&&_}
 use mathlib.Core.List.{List, []}
@@ -11,7 +11,7 @@ use Rattle.row.specs.declared.Grouped.{Grouped}
 use Rattle.row.specs.declared.Check.{Check}
 use Rattle.row.specs.declared.Formed.{Formed}
 use Rattle.row.specs.Sums.{weigh, total}
-use Rattle.row.specs.Tandem.{Tandem, Path, flow, on}
+use Rattle.row.specs.Tandem.{Tandem, Path, flow, crosses, on}
 use Rattle.row.specs.Groups.{path, put, used, reads}
 use Rattle.row.specs.OfSheet.{tandemOf, padded, noRow}
 
@@ -19,9 +19,20 @@ use Rattle.row.specs.OfSheet.{tandemOf, padded, noRow}
 abbrev pub overlapping : Flow → Flow → Bool
 overlapping a b = ltb (a .first) (b .first) && (leb (b .first) (a .last) && ltb (a .last) (b .last))
 
--- what a flow adds to the rates at server j
-abbrev pub share : Flow → ℕ → ℕ
-share a j = weigh (leb (a .first) j && leb j (a .last)) (a .rate)
+-- sums for 16 servers, each with room for one rate more in a u64
+pub record Roomy (loads : List ℕ) (rate : ℕ) : Type 0 where
+  pub long : length loads ≡ 16
+  pub room : (j : ℕ) → 1 ≤ j → j ≤ 16 → getD loads (j - 1) 0 + rate < 18446744073709551616
+
+-- a rate added at each server from the first to the last
+pub record Added (first last rate : ℕ) (before after : List ℕ) : Type 0 where
+  pub long : length after ≡ 16
+  pub load-at : (j : ℕ) → 1 ≤ j → j ≤ 16 → getD after (j - 1) 0 ≡ getD before (j - 1) 0 + weigh (leb first j && leb j last) rate
+
+-- the rates of the first n flows added up for each server
+pub record Loaded (row : Tandem) (n : ℕ) (loads : List ℕ) : Type 0 where
+  pub long : length loads ≡ 16
+  pub load-at : (j : ℕ) → 1 ≤ j → j ≤ 16 → getD loads (j - 1) 0 ≡ total n (λ f. weigh (crosses row f j) (flow row f .rate))
 
 -- a flow's rate, or its burst
 abbrev pub amount : Bool → Flow → ℕ

@@ -1,8 +1,8 @@
 -- A row with its single flows (document 01, "The row being judged"): "A row has servers 1..N. The watched flow crosses all of them. A
 -- cross flow enters at its first server and leaves after its last." The source papers call it a tandem.
 -- Assumes nothing.
-use Prim.Native.Nat.{ℕ, _+_, _-_}
-use mathlib.Core.Bool.{Bool, true, false, _&&_}
+use Prim.Native.Nat.{ℕ, _-_}
+use mathlib.Core.Bool.{Bool, _&&_}
 use mathlib.Core.List.{List}
 use lib.Dec.{leb, ltb, eqb}
 use lib.ListN.{length, getD}

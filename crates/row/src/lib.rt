@@ -1,17 +1,16 @@
 // The row of a sheet: its servers, its flows put together into groups, and the checks that it must pass.
 ghost use mathlib.Core.Path.{_≡_};
 ghost use mathlib.Core.Bool.{_&&_};
-ghost use mathlib.Core.List.{_∷_};
 ghost use Prim.Native.Nat.{_+_, _-_, _*_, _^_, _≤_, _<_};
 ghost use lib.Dec.{ltb, eqb};
-ghost use lib.ListN.{length, getD};
+ghost use lib.ListN.{length};
 ghost use Rattle.sheet.specs.Valid.{Valid, serverCount, flowCount};
 ghost use Rattle.row.specs.Sums.{any};
-ghost use Rattle.row.specs.Tandem.{size, server, flow, crosses, rates};
+ghost use Rattle.row.specs.Tandem.{size, flow};
 ghost use Rattle.row.specs.Groups.{groups};
-ghost use Rattle.row.specs.Checks.{overlaps, notNested, crowded, lowestCrowded};
-ghost use Rattle.row.specs.OfSheet.{serverOf, flowOf, watchedOf, tandemOf, gridOf, padded, noRow, rowOf, formedOf};
-ghost use Rattle.row.specs.Parts.{overlapping, share, amount, placeOf, Summed, groupedOf, refusedBy};
+ghost use Rattle.row.specs.Checks.{overlaps, notNested, lowestCrowded};
+ghost use Rattle.row.specs.OfSheet.{serverOf, flowOf, watchedOf, tandemOf, gridOf, padded, rowOf, formedOf};
+ghost use Rattle.row.specs.Parts.{overlapping, Roomy, Added, Loaded, amount, placeOf, Summed, groupedOf, refusedBy};
 
 // A server: its rate R in bytes a slot and its latency T in slots.
 pub struct Server {
@@ -191,41 +190,32 @@ fn is_not_nested(numbers: &[u32]) -> bool
     false
 }
 
-// What a flow adds to the rates at server j.
-fn share_at(a: Flow, j: usize) -> u64
-    ensures { λ r. ⌜ r ≡ share a j ⌝ }
+// Adds a rate at each server of a path, counted from 1.
+fn add_load(loads: &mut [u64], first: usize, last: usize, rate: u64)
+    requires { ⌜ (1 ≤ first) × (first ≤ last) × (last ≤ 16) × Roomy (now loads) rate ⌝ }
+    ensures { λ _. ⌜ Added first last rate (now (loads .entry)) (now (loads .exit)) ⌝ }
 {
-    if j < a.first {
-        return 0;
+    let mut i = first - 1;
+    while i < last {
+        loads[i] = loads[i] + rate;
+        i = i + 1;
     }
-    if a.last < j {
-        return 0;
-    }
-    a.rate
 }
 
-// The rates at server j, the watched flow's included, added up.
-fn rates_at(numbers: &[u32], j: usize) -> u64
+// The rates at each server, the watched flow's included, added up.
+fn loads_of(numbers: &[u32]) -> [u64; 16]
     requires { ⌜ Valid (now numbers) ⌝ }
-    ensures { λ r. ⌜ r ≡ rates (tandemOf (now (numbers .entry))) (λ f. crosses (tandemOf (now (numbers .entry))) f j) ⌝ }
+    ensures { λ r. ⌜ Loaded (tandemOf (now (numbers .entry))) (length (tandemOf (now (numbers .entry)) .flows)) r ⌝ }
 {
     let n = flow_total(numbers);
-    let mut sum: u64 = 0;
+    let mut loads = [0u64; 16];
     let mut f: usize = 0;
     while f < n {
-        sum = sum + share_at(flow_at(numbers, f), j);
+        let a = flow_at(numbers, f);
+        add_load(&mut loads, a.first, a.last, a.rate);
         f = f + 1;
     }
-    sum
-}
-
-// Whether the rates at server j, counted from 1, sum above its own.
-fn is_crowded(numbers: &[u32], j: usize) -> bool
-    requires { ⌜ Valid (now numbers) × (0 < j) × (j ≤ serverCount (now numbers)) ⌝ }
-    ensures { λ r. ⌜ r ≡ crowded (tandemOf (now (numbers .entry))) j ⌝ }
-{
-    let s = server_at(numbers, j - 1);
-    s.rate < rates_at(numbers, j)
+    loads
 }
 
 // Check 7: the lowest server whose rates sum above its own, or 0.
@@ -234,9 +224,11 @@ fn lowest_crowded(numbers: &[u32]) -> usize
     ensures { λ r. ⌜ r ≡ lowestCrowded (tandemOf (now (numbers .entry))) 1 (size (tandemOf (now (numbers .entry)))) ⌝ }
 {
     let n = server_count(numbers);
+    let loads = loads_of(numbers);
     let mut j = 1;
     while j <= n {
-        if is_crowded(numbers, j) {
+        let s = server_at(numbers, j - 1);
+        if s.rate < loads[j - 1] {
             return j;
         }
         j = j + 1;

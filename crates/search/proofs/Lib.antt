@@ -3,3 +3,4 @@ pub mod Nodes
 pub mod Stepping
 pub mod Scanning
 pub mod Searching
+pub mod Planting

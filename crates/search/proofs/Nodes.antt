@@ -8,57 +8,25 @@ use Prim.Native.Nat.{ℕ, zero, suc, _+_, _-_, _≤_, _<_}
 use native.Mathlib.Omega.{arith}
 use borrow.Author.Tests.{eqb-true, eqb-false}
 use lib.Dec.{eqb}
-use lib.ListN.{length, take, drop, getD, set, replicate, length-set, length-map, replicate-append-replicate, drop-of-length-le}
-use lib.Seq.{drop-nil, drop-cons, getD-set-same, getD-set-other, getD-take}
+use lib.ListN.{length, drop, getD, set, replicate, length-set, length-map, replicate-append-replicate, drop-of-length-le}
+use lib.Seq.{drop-cons, getD-set-same, getD-set-other}
 use Rattle.curves.specs.declared.Curve.{Curve}
 use Rattle.curves.specs.Curve.{Shape, delay}
 use Rattle.curves.specs.Held.{Holds}
 use Rattle.row.specs.declared.Server.{Server}
 use Rattle.row.specs.declared.Flow.{Flow}
-use Rattle.tree.specs.Plan.{Node, Top, alone, over, topOf, nodeCurve, nodeOf, headOf, tailOf, plan}
+use Rattle.tree.specs.Plan.{Node, Top, alone, over, topOf, nodeOf, plan}
 use Rattle.search.specs.declared.Point.{Point}
-use Rattle.search.specs.Point.{noFlow, waitsOf, answerOf, pointOf}
-use Rattle.search.specs.Searchable.{Fine, AllFine}
+use Rattle.line.specs.Answer.{noFlow, waitsOf, answerOf}
+use Rattle.line.proofs.Nodes.{planFrom, curveAt, nodeAt, plan-length, plan-at}
+use Rattle.search.specs.Point.{pointOf}
 
 abbrev pub noCurve : Curve
 noCurve = record { offset = 0; count = 0; stages = [] }
 
--- the nodes from k on, and the curve and the node of k
-abbrev pub planFrom : List Server → List Flow → List ℕ → ℕ → List Node
-planFrom ss gs xs k = plan ss (drop k gs) (drop k xs)
-
-abbrev pub curveAt : List Server → List Flow → List ℕ → ℕ → Shape
-curveAt ss gs xs k = nodeCurve ss (getD gs k noFlow) (drop (suc k) gs) (planFrom ss gs xs (suc k))
-
-abbrev pub nodeAt : List Server → List Flow → List ℕ → ℕ → Node
-nodeAt ss gs xs k = nodeOf (curveAt ss gs xs k) (getD gs k noFlow) (getD xs k 0)
-
 -- what begins at each server, by the nodes behind k
 abbrev pub topAt : List Server → List Flow → List ℕ → ℕ → ℕ → Top
 topAt ss gs xs k = topOf (drop (suc k) gs) (planFrom ss gs xs (suc k))
-
-head-drop : (xs : List ℕ) (k : ℕ) → headOf (drop k xs) ≡ getD xs k 0
-head-drop [] zero = refl
-head-drop [] (suc k) = refl
-head-drop (x ∷ xs) zero = refl
-head-drop (x ∷ xs) (suc k) = head-drop xs k
-
-tail-drop : (xs : List ℕ) (k : ℕ) → tailOf (drop k xs) ≡ drop (suc k) xs
-tail-drop [] zero = refl
-tail-drop [] (suc k) = refl
-tail-drop (x ∷ xs) zero = refl
-tail-drop (x ∷ xs) (suc k) = tail-drop xs k
-
-plan-length : (ss : List Server) (gs : List Flow) (xs : List ℕ) → length (plan ss gs xs) ≡ length gs
-unfolding plan
-plan-length ss [] xs = refl
-plan-length ss (g ∷ gs) xs = ap suc (plan-length ss gs (tailOf xs))
-
-fine-drop : (ss : List Server) (gs : List Flow) (xs : List ℕ) (k : ℕ) → AllFine ss gs xs → AllFine ss (drop k gs) (drop k xs)
-fine-drop ss gs xs zero h = h
-fine-drop ss [] xs (suc k) h = tt
-fine-drop ss (g ∷ gs) [] (suc k) h = rw (drop-nil {A = ℕ} k) at (fine-drop ss gs [] k (h .1))
-fine-drop ss (g ∷ gs) (x ∷ xs) (suc k) h = fine-drop ss gs xs k (h .1)
 
 -- what is known of the group that is marked at server j: its node is one of those behind k, and t is its number
 pub record Marked (ls : List Curve) (gs : List Flow) (n k j t : ℕ) (d : Shape) (l : ℕ) : Type 0 where
@@ -88,11 +56,6 @@ pub mark-some : (ls : List Curve) (gs : List Flow) (n k j t : ℕ) (m : Top) →
 mark-some ls gs n k j t alone h e = absurd (e h)
 mark-some ls gs n k j t (over d l) h e = record { left = d; end = l; is = refl; marked = h }
 
--- the extra of node k, whose number the code counts from 0 behind the watched flow
-pub extra-at : (n : ℕ) (es : List ℕ) (k : ℕ) → 0 < k → k ≤ n → getD (0 ∷ take n es) k 0 ≡ getD es (k - 1) 0
-extra-at n es zero p q = absurd (omega arith)
-extra-at n es (suc i) p q = let b : suc i - 1 ≡ i = omega arith in rw b (getD-take n es i 0 (omega arith))
-
 -- nodes k and behind are worked out
 pub record Upto (ss : List Server) (gs : List Flow) (xs : List ℕ) (k : ℕ) (ls : List Curve) (ws ts : List ℕ) : Type 0 where
   pub full : length ls ≡ 32
@@ -105,13 +68,6 @@ set-zeros zero w l = refl
 set-zeros (suc i) w l = ap (λ (m : List ℕ). 0 ∷ m) (set-zeros i w l)
 
 module _ (ss : List Server) (gs : List Flow) (xs : List ℕ) where
-  pub plan-at : (k : ℕ) → k < length gs → planFrom ss gs xs k ≡ nodeAt ss gs xs k ∷ planFrom ss gs xs (suc k)
-  unfolding plan
-  plan-at k p = rw (drop-cons gs k noFlow p, head-drop, tail-drop)
-
-  pub fine-at : (k : ℕ) → k < length gs → AllFine ss gs xs → Fine (curveAt ss gs xs k) (getD gs k noFlow) (getD xs k 0)
-  fine-at k p h = (rw (drop-cons gs k noFlow p, head-drop, tail-drop) at (fine-drop ss gs xs k h)) .0
-
   -- before the first node there is none
   pub upto-none : (k : ℕ) (ls : List Curve) → length gs ≡ k → 0 < k → k ≤ 32 → length ls ≡ 32
       → Upto ss gs xs k ls (replicate 32 0) (replicate 17 0)
@@ -178,8 +134,8 @@ module _ (ss : List Server) (gs : List Flow) (xs : List ℕ) where
           record {
             full = length-set ls (suc i) c ∙ u .full;
             wide = length-set ts (getD gs (suc i) noFlow .first) (suc i) ∙ u .wide;
-            waits = rw (plan-at (suc i) p, ← e, u .waits, a, b) (set-zeros i w _);
-            marks = λ j. rw (plan-at (suc i) p, drop-cons gs (suc i) noFlow p) (mark j (eqb (getD gs (suc i) noFlow .first) j) refl);
+            waits = rw (plan-at ss gs xs (suc i) p, ← e, u .waits, a, b) (set-zeros i w _);
+            marks = λ j. rw (plan-at ss gs xs (suc i) p, drop-cons gs (suc i) noFlow p) (mark j (eqb (getD gs (suc i) noFlow .first) j) refl);
           }
 
   -- the same at a number k, of which the code takes 1 away twice

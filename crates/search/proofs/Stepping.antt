@@ -1,4 +1,4 @@
--- The steps as `steps_of` collects them, and the latencies as they are summed.
+-- The steps as `steps_of` collects them.
 -- Assumes nothing.
 use mathlib.Core.Path.{_≡_, refl, sym, ap, _∙_}
 use mathlib.Core.List.{List, [], _∷_, _++_}
@@ -9,11 +9,9 @@ use native.Mathlib.Omega.{arith}
 use mathlib.Core.Bool.{Bool, true, false}
 use borrow.Author.Tests.{eq-eqb, ne-eqb}
 use lib.Dec.{eqb}
-use lib.ListN.{length, take, getD, set, replicate, length-set}
+use lib.ListN.{length, take, set, replicate, length-set}
 use lib.Seq.{take-suc-set}
-use Rattle.row.specs.declared.Server.{Server}
 use Rattle.tree.specs.Searched.{Each}
-use Rattle.search.specs.Searchable.{latencies}
 use Rattle.search.specs.Steps.{keep, once, stepAt}
 use Rattle.tree.specs.GridLaws.{each-append}
 
@@ -106,18 +104,3 @@ once-each P f (suc (suc n)) h =
 
 pub steps-le : (start g : ℕ) → Each (λ e. e ≤ start) (once (stepAt start g) g)
 steps-le start g = once-each (λ e. e ≤ start) (stepAt start g) g (step-le start g)
-
--- the latencies of the first servers
-
-pub latencies-more : (l : List Server) (i : ℕ) (d : Server) → i < length l → latencies (take (i + 1) l) ≡ latencies (take i l) + getD l i d .latency
-unfolding latencies
-latencies-more [] i d p = absurd (omega arith)
-latencies-more (s ∷ l) zero d p = omega arith
-latencies-more (s ∷ l) (suc i) d p = let r = rw add-one at (latencies-more l i d (omega arith)) in rw add-one (omega arith)
-
-pub latencies-le : (l : List Server) (i n : ℕ) → i ≤ n → latencies (take i l) ≤ latencies (take n l)
-unfolding latencies
-latencies-le l zero n p = omega arith
-latencies-le [] (suc i) n p = omega arith
-latencies-le (s ∷ l) (suc i) zero p = absurd (omega arith)
-latencies-le (s ∷ l) (suc i) (suc n) p = let r = latencies-le l i n (omega arith) in omega arith

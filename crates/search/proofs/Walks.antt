@@ -8,7 +8,6 @@ use Prim.Native.Nat.{ℕ, zero, suc, _+_, _≤_, _<_, _^_}
 use native.Mathlib.Nat.{le-trans}
 use native.Mathlib.Numerals.{add-one}
 use native.Mathlib.Omega.{arith}
-use borrow.Author.Tests.{lt-ltb, le-ltb}
 use lib.Dec.{ltb}
 use lib.ListN.{length, length-append}
 use Rattle.curves.specs.declared.Curve.{Curve}
@@ -17,6 +16,7 @@ use Rattle.curves.specs.Held.{Holds}
 use Rattle.row.specs.declared.Server.{Server}
 use Rattle.row.specs.declared.Flow.{Flow}
 use Rattle.tree.specs.Plan.{Node, Top, alone, over, topOf, serverCurve, pieceOn, along, nodeCurve}
+use Rattle.line.proofs.Tiles.{along-alone, along-over, along-end}
 
 -- c is part of d: no larger offset, no more stages
 pub record PartOf (c d : Shape) : Type 0 where
@@ -53,23 +53,6 @@ join-room {a} {b} {c} {d} {w} h k p m n = (
   omega (arith, h .count, k .count, p .stages, length-append (c .stages) (d .stages)),
   omega (arith, h .offset, k .offset, p .offset),
 )
-
--- one piece more, by what begins at server j
-
-along-alone : (ss : List Server) (top : ℕ → Top) (n : ℕ) (c : Shape) (j e : ℕ) → j ≤ e → top j ≡ alone
-    → along ss top (suc n) c j e ≡ along ss top n (joined c (serverCurve ss j)) (suc j) e
-unfolding along
-along-alone ss top n c j e h t = rw (le-ltb e j h, t)
-
-along-over : (ss : List Server) (top : ℕ → Top) (n : ℕ) (c d : Shape) (j l e : ℕ) → j ≤ e → top j ≡ over d l
-    → along ss top (suc n) c j e ≡ along ss top n (joined c d) (suc l) e
-unfolding along
-along-over ss top n c d j l e h t = rw (le-ltb e j h, t)
-
-along-end : (ss : List Server) (top : ℕ → Top) (n : ℕ) (c : Shape) (j e : ℕ) → e < j → along ss top n c j e ≡ c
-unfolding along
-along-end ss top zero c j e h = refl
-along-end ss top (suc n) c j e h = rw (lt-ltb e j h)
 
 -- on the way to server e, before server j: the record c holds what is joined so far, and with what is to come it makes the whole
 pub record Walking (ss : List Server) (top : ℕ → Top) (whole : Shape) (e : ℕ) (c : Curve) (j : ℕ) : Type 0 where

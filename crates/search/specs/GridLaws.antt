@@ -17,8 +17,8 @@ use Rattle.tree.specs.Grid.{Answer, flat, pointsFrom, pointsOf, stepsOf, better
 use Rattle.tree.specs.Searched.{Each}
 use Rattle.tree.specs.GridLaws.{best-le, best-append, best-stays, each-map}
 use Rattle.tree.specs.GridLaws as tree
-use Rattle.search.specs.Point.{pointOf, answerHeld}
-use Rattle.search.specs.Searchable.{total}
+use Rattle.tree.specs.Amounts.{sumOf}
+use Rattle.search.specs.Point.{heldOf}
 use Rattle.search.specs.Steps.{once, stepAt}
 
 -- the better of two answers
@@ -104,14 +104,12 @@ best-steps at a start g n =
 
 -- answers held by the code
 
-better-held : (a b : Answer) (t : Bool) → ltb (b .delay) (a .delay) ≡ t
-    → better (answerHeld (pointOf a)) (answerHeld (pointOf b)) ≡ answerHeld (pointOf (better a b))
-unfolding pointOf better
+better-held : (a b : Answer) (t : Bool) → ltb (b .delay) (a .delay) ≡ t → better (heldOf a) (heldOf b) ≡ heldOf (better a b)
+unfolding better
 better-held a b true e = rw e
 better-held a b false e = rw e
 
-pub best-held : (at : List ℕ → Answer) (a : Answer) (l : List (List ℕ))
-    → bestOf (λ p. answerHeld (pointOf (at p))) (answerHeld (pointOf a)) l ≡ answerHeld (pointOf (bestOf at a l))
+pub best-held : (at : List ℕ → Answer) (a : Answer) (l : List (List ℕ)) → bestOf (λ p. heldOf (at p)) (heldOf a) l ≡ heldOf (bestOf at a l)
 best-held at a [] = refl
 best-held at a (p ∷ l) =
     rw (better-held a (at p) (ltb (at p .delay) (a .delay)) refl) (best-held at (better a (at p)) l)
@@ -152,19 +150,20 @@ points-each P l h (suc n) fixed k =
     (points-each P l h n (fixed ++ (e ∷ [])) (tree.each-append P fixed (e ∷ []) k (p, tt))))
     h
 
-pub total-append : (l m : List ℕ) → total (l ++ m) ≡ total l + total m
-total-append [] m = omega arith
-total-append (x ∷ l) m = omega (arith, total-append l m)
+pub sum-append : (l m : List ℕ) → sumOf (l ++ m) ≡ sumOf l + sumOf m
+unfolding sumOf
+sum-append [] m = omega arith
+sum-append (x ∷ l) m = omega (arith, sum-append l m)
 
 each-any : (P : ℕ → Type 0) → ((e : ℕ) → P e) → (l : List ℕ) → Each P l
 each-any P f [] = tt
 each-any P f (e ∷ l) = (f e, each-any P f l)
 
 -- a point's extras sum to at least those that it begins with
-pub points-total : (l : List ℕ) (n : ℕ) (fixed : List ℕ) → Each (λ es. total fixed ≤ total es) (pointsFrom l fixed n)
-points-total l zero fixed = (omega arith, tt)
-points-total l (suc n) fixed =
-    flat-each (λ e. Unit {0}) (λ es. total fixed ≤ total es) (λ (e : ℕ). pointsFrom l (fixed ++ (e ∷ [])) n) l
-    (λ e p. each-map (λ es. total (fixed ++ (e ∷ [])) ≤ total es) (λ es. total fixed ≤ total es)
-    (pointsFrom l (fixed ++ (e ∷ [])) n) (λ es q. omega (arith, q, total-append fixed (e ∷ []))) (points-total l n (fixed ++ (e ∷ []))))
+pub points-sum : (l : List ℕ) (n : ℕ) (fixed : List ℕ) → Each (λ es. sumOf fixed ≤ sumOf es) (pointsFrom l fixed n)
+points-sum l zero fixed = (omega arith, tt)
+points-sum l (suc n) fixed =
+    flat-each (λ e. Unit {0}) (λ es. sumOf fixed ≤ sumOf es) (λ (e : ℕ). pointsFrom l (fixed ++ (e ∷ [])) n) l
+    (λ e p. each-map (λ es. sumOf (fixed ++ (e ∷ [])) ≤ sumOf es) (λ es. sumOf fixed ≤ sumOf es)
+    (pointsFrom l (fixed ++ (e ∷ [])) n) (λ es q. omega (arith, q, sum-append fixed (e ∷ []))) (points-sum l n (fixed ++ (e ∷ []))))
     (each-any (λ e. Unit {0}) (λ e. tt) l)

@@ -1,13 +1,19 @@
-// The search: one point of the grid worked out over the nesting tree, and the first point of the grid with the least delay.
+// The search: the first point of the grid with the least delay. A quick sheet has one point, worked out with whole curves over the nesting
+// tree; the points of a grid are worked out in place (crate `line`).
 ghost use mathlib.Core.Path.{_≡_};
-ghost use Prim.Native.Nat.{_-_, _≤_, _<_, _^_};
+ghost use Prim.Native.Nat.{_+_, _-_, _≤_, _<_, _^_};
 ghost use mathlib.Core.List.{_∷_};
 ghost use lib.ListN.{length, take};
-ghost use Rattle.search.specs.Point.{serversOf, flowsOf, answerAt, extrasOf, pointOf, answerHeld, heldAt, searched};
-ghost use Rattle.search.specs.Searchable.{AllFine, Shaped, Searchable, Ready, latencies, foundIn};
-ghost use Rattle.search.specs.Steps.{once, stepAt, valuesOf};
+ghost use Rattle.tree.specs.Plan.{plan};
+ghost use Rattle.tree.specs.Fine.{AllFine};
 ghost use Rattle.tree.specs.Grid.{pointsFrom, better, bestOf};
+ghost use Rattle.line.specs.Answer.{Workable};
+ghost use Rattle.line.specs.Line.{serversIn, flowsIn};
+ghost use Rattle.search.specs.Point.{serversOf, flowsOf, answerAt, extrasOf, pointOf, answerBy, heldAt, searched};
+ghost use Rattle.search.specs.Searchable.{Shaped, Searchable, Ready, foundIn};
+ghost use Rattle.search.specs.Steps.{once, stepAt, valuesOf};
 use curves::Curve;
+use line::Line;
 use row::Row;
 
 // What stands at a point: the watched flow's delay, and each group's wait in order.
@@ -32,7 +38,7 @@ pub struct Found {
 // The nodes from the last group to the watched flow, each from those behind it. Of the groups behind node k, tops[j] is the outermost
 // that begins at server j, 0 where there is none, and lefts holds what each leaves.
 fn evaluate(row: Row, extra: [u64; 32]) -> Point
-    requires { ⌜ Shaped row × AllFine (serversOf row) (flowsOf row) (0 ∷ extrasOf row extra) ⌝ }
+    requires { ⌜ Shaped row × AllFine (plan (serversOf row) (flowsOf row) (0 ∷ extrasOf row extra)) (flowsOf row) ⌝ }
     ensures { λ r. ⌜ r ≡ pointOf (answerAt row (extrasOf row extra)) ⌝ }
 {
     let none = Curve::none();
@@ -72,33 +78,120 @@ fn evaluate(row: Row, extra: [u64; 32]) -> Point
     }
 }
 
-// The better of `best` and the point with these extras; on a tie, `best`.
-fn try_point(row: Row, extra: [u64; 32], best: Point) -> Point
-    requires { ⌜ Shaped row × AllFine (serversOf row) (flowsOf row) (0 ∷ extrasOf row extra) ⌝ }
-    ensures { λ r. ⌜ answerHeld r ≡ better (answerHeld best) (heldAt row (extrasOf row extra)) ⌝ }
+// The row's servers in a line.
+fn line_of(row: Row) -> Line
+    requires { ⌜ row .size ≤ 16 ⌝ }
+    ensures { λ r. ⌜ (length (r .latencies) ≡ 16) × (serversIn r (row .size) ≡ serversOf row) ⌝ }
 {
-    let p = evaluate(row, extra);
-    if p.delay < best.delay { p } else { best }
-}
-
-// The first best of `best` and all points whose first k extras are these. No such point has a delay below `least`, the servers'
-// latencies and those extras together; a block of points that cannot be below the best so far is passed over.
-fn scan(row: Row, steps: Steps, extra: [u64; 32], k: usize, least: u64, best: Point) -> Point
-    requires { ⌜ Ready row steps extra k least best ⌝ }
-    ensures { λ r. ⌜ answerHeld r ≡ bestOf (heldAt row) (answerHeld best) (pointsFrom (valuesOf steps) (take k extra) (row .count - 1 - k)) ⌝ }
-{
-    if k + 1 == row.count {
-        return try_point(row, extra, best);
-    }
-    let n = steps.count;
-    let mut b = best;
-    let mut x = extra;
+    let n = row.size;
+    let mut rates = [0u64; 16];
+    let mut latencies = [0u64; 16];
     let mut i: usize = 0;
     while i < n {
-        let e = steps.values[i];
-        x[k] = e;
-        if least + e < b.delay {
-            b = scan(row, steps, x, k + 1, least + e, b);
+        let s = row.servers[i];
+        rates[i] = s.rate;
+        latencies[i] = s.latency;
+        i = i + 1;
+    }
+    Line {
+        rates: rates,
+        latencies: latencies,
+    }
+}
+
+// The row's flows in one list of numbers.
+fn flows_of(row: Row) -> [u64; 128]
+    requires { ⌜ row .count ≤ 32 ⌝ }
+    ensures { λ r. ⌜ (length r ≡ 128) × (flowsIn r (row .count) ≡ flowsOf row) ⌝ }
+{
+    let n = row.count;
+    let mut flows = [0u64; 128];
+    let mut k: usize = 0;
+    while k < n {
+        let g = row.groups[k];
+        let at = 4 * k;
+        flows[at] = g.first as u64;
+        flows[at + 1] = g.last as u64;
+        flows[at + 2] = g.burst;
+        flows[at + 3] = g.rate;
+        k = k + 1;
+    }
+    flows
+}
+
+// Copies a list over another of the same length.
+fn copy(from: &[u64], to: &mut [u64])
+    requires { ⌜ length (now from) ≡ length (now to) ⌝ }
+    ensures { λ _. ⌜ now (to .exit) ≡ now (from .entry) ⌝ }
+{
+    let mut i: usize = 0;
+    while i < to.len() {
+        to[i] = from[i];
+        i = i + 1;
+    }
+}
+
+// The better of the best so far, `bound` with its waits, and the point with these extras; on a tie, the best so far.
+fn try_point(
+    line: Line,
+    size: usize,
+    flows: &[u64],
+    count: usize,
+    extra: &[u64],
+    bound: u64,
+    waits: &mut [u64],
+) -> u64
+    requires { ⌜ Workable (serversIn line size) (flowsIn (now flows) count) (take (count - 1) (now extra)) × (length (now flows) ≡ 128) × (length (now extra) ≡ 32) × (length (now waits) ≡ 32) ⌝ }
+    ensures { λ r. ⌜ answerBy r (now (waits .exit)) ≡ better (answerBy bound (now (waits .entry))) (heldAt (serversIn line size) (flowsIn (now (flows .entry)) count) (take (count - 1) (now (extra .entry)))) ⌝ }
+{
+    let mut trial = [0u64; 32];
+    let delay = line::settle(line, size, flows, count, extra, &mut trial);
+    if delay < bound {
+        copy(&trial, waits);
+        return delay;
+    }
+    bound
+}
+
+// The first best of the best so far and all points whose first k extras are these. No such point has a delay below `least`, the servers'
+// latencies and those extras together; a block of points that cannot be below the best so far is passed over.
+fn scan(
+    line: Line,
+    size: usize,
+    flows: &[u64],
+    count: usize,
+    steps: &[u64],
+    extra: &mut [u64],
+    k: usize,
+    least: u64,
+    bound: u64,
+    waits: &mut [u64],
+) -> u64
+    requires { ⌜ Ready (serversIn line size) (flowsIn (now flows) count) (now steps) (now extra) k least bound × (length (now flows) ≡ 128) × (length (now extra) ≡ 32) × (length (now waits) ≡ 32) ⌝ }
+    ensures best { λ r. ⌜ answerBy r (now (waits .exit)) ≡ bestOf (heldAt (serversIn line size) (flowsIn (now (flows .entry)) count)) (answerBy bound (now (waits .entry))) (pointsFrom (now (steps .entry)) (take k (now (extra .entry))) (count - 1 - k)) ⌝ }
+    ensures fixed { λ _. ⌜ take k (now (extra .exit)) ≡ take k (now (extra .entry)) ⌝ }
+{
+    if k + 1 == count {
+        return try_point(line, size, flows, count, extra, bound, waits);
+    }
+    let mut b = bound;
+    let mut i: usize = 0;
+    while i < steps.len() {
+        let e = steps[i];
+        extra[k] = e;
+        if least + e < b {
+            b = scan(
+                line,
+                size,
+                flows,
+                count,
+                steps,
+                extra,
+                k + 1,
+                least + e,
+                b,
+                waits,
+            );
         }
         i = i + 1;
     }
@@ -129,19 +222,40 @@ fn steps_of(start: u64, g: usize) -> Steps
     }
 }
 
-// The servers' latencies together.
-fn sum_latencies(row: Row) -> u64
-    requires { ⌜ (row .size ≤ 16) × (latencies (serversOf row) < 2 ^ 62) ⌝ }
-    ensures { λ r. ⌜ r ≡ latencies (serversOf row) ⌝ }
+// The search over the grid of a row.
+fn over_grid(row: Row) -> Found
+    requires { ⌜ Searchable row × (row .mode ≡ 0) ⌝ }
+    ensures { λ r. ⌜ r ≡ foundIn (searched row .start) (searched row .best) ⌝ }
 {
-    let n = row.size;
-    let mut sum: u64 = 0;
-    let mut i: usize = 0;
-    while i < n {
-        sum = sum + row.servers[i].latency;
-        i = i + 1;
+    let line = line_of(row);
+    let flows = flows_of(row);
+    let size = row.size;
+    let count = row.count;
+    let mut extra = [0u64; 32];
+    let mut waits = [0u64; 32];
+    let start = line::settle(line, size, &flows, count, &extra, &mut waits);
+    let steps = steps_of(start, row.grid);
+    let n = steps.count;
+    let values = steps.values;
+    let latencies = line.latencies;
+    let least = line::sum(&latencies, 0, size);
+    let bound = scan(
+        line,
+        size,
+        &flows,
+        count,
+        &values[..n],
+        &mut extra,
+        0,
+        least,
+        start,
+        &mut waits,
+    );
+    Found {
+        start: start,
+        bound: bound,
+        waits: waits,
     }
-    sum
 }
 
 // The search of a row: the first point of its grid with the least delay; in mode 1 the point with no extras.
@@ -149,19 +263,12 @@ pub fn search(row: Row) -> Found
     requires { ⌜ Searchable row ⌝ }
     ensures { λ r. ⌜ r ≡ foundIn (searched row .start) (searched row .best) ⌝ }
 {
+    if row.mode == 0 {
+        return over_grid(row);
+    }
     let none = [0u64; 32];
     let first = evaluate(row, none);
     let start = first.delay;
-    if row.mode == 0 {
-        let steps = steps_of(start, row.grid);
-        let best = scan(row, steps, none, 0, sum_latencies(row), first);
-        let waits = best.waits;
-        return Found {
-            start: start,
-            bound: best.delay,
-            waits: waits,
-        };
-    }
     let waits = first.waits;
     Found {
         start: start,

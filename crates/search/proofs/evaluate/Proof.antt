@@ -3,7 +3,7 @@
 -- Assumes nothing.
 use mathlib.Core.Path.{_≡_, refl, sym, ap, subst, _∙_}
 use mathlib.Core.List.{List, _∷_}
-use Prim.Native.Nat.{ℕ, suc, _+_, _-_, _≤_, _<_}
+use Prim.Native.Nat.{ℕ, suc, _+_, _-_, _≤_, _<_, _^_}
 use native.Mathlib.Omega.{arith}
 use lib.ListN.{length, getD, set, length-map}
 use lib.Seq.{length-take-le, getD-take}
@@ -14,10 +14,12 @@ use Rattle.row.specs.declared.Server.{Server}
 use Rattle.row.specs.declared.Flow.{Flow}
 use Rattle.row.specs.declared.Row.{Row}
 use Rattle.tree.specs.Plan.{Top, alone, serverCurve, nodeOf}
-use Rattle.search.specs.Point.{serversOf, flowsOf, extrasOf, noFlow}
-use Rattle.search.specs.Searchable.{Fine, Placed}
+use Rattle.tree.specs.Fine.{Fine}
+use Rattle.line.specs.Answer.{noFlow, Placed}
+use Rattle.line.proofs.Nodes.{curveAt, nodeAt, extra-at, fine-at}
+use Rattle.search.specs.Point.{serversOf, flowsOf, extrasOf}
 use Rattle.search.proofs.Walks.{Walking, walk-begins, walk-ends, walk-room, walk-room-over, walk-turn, walk-turn-over}
-use Rattle.search.proofs.Nodes.{curveAt, topAt, Upto, Group, mark-none, mark-some, extra-at, fine-at, upto-none, upto-next, upto-root}
+use Rattle.search.proofs.Nodes.{topAt, Upto, Group, mark-none, mark-some, upto-none, upto-next, upto-root}
 use Rattle.search.proofs.evaluate.Statement.{statement}
 use Rattle.search.proofs.evaluate.Tie as tie
 
@@ -94,10 +96,15 @@ module _ (a : tie.At-loop Inv-loop2 μ-loop2 Inv-loop μ-loop) where
       let e : a .loop .k ≡ suc at = omega (arith, a .loop .inv .0) in
       subst (λ (n : ℕ). Upto (ss start) (gs start) (xs start) n (a .loop .lefts) (a .loop .waits) (a .loop .tops)) e (a .loop .inv .2)
 
-  fine : Fine curve its (getD (xs start) at 0)
+  fine : Fine (nodeAt (ss start) (gs start) (xs start) at) its
   fine =
-      subst (λ (g : Flow). Fine curve g (getD (xs start) at 0)) group-is
+      subst (λ (g : Flow). Fine (nodeAt (ss start) (gs start) (xs start) at) g) group-is
       (fine-at (ss start) (gs start) (xs start) at (omega (arith, inside, groups-are start)) (start .pre .1))
+
+  -- its wait is not too long
+  soon : leastWait curve (its .burst) + getD (xs start) at 0 < 2 ^ 36
+  unfolding nodeOf
+  soon = subst (λ (g : Flow). leastWait curve (g .burst) + getD (xs start) at 0 < 2 ^ 36) group-is (fine .soon)
 
 -- before server j of the path
 module _ (c : tie.In-loop2 Inv-loop2 μ-loop2 Inv-loop μ-loop) where
@@ -210,6 +217,7 @@ server-requires : tie.Need-server-requires Inv-loop2 μ-loop2 Inv-loop μ-loop
 server-requires c κs = tt
 
 join-requires : tie.Need-join-requires Inv-loop2 μ-loop2 Inv-loop μ-loop
+unfolding nodeOf
 join-requires c κs =
     let i = c .before .before .before in
     let f = fine (turn i) in
@@ -239,6 +247,7 @@ array-copy-out-join c =
     omega (arith, up a .full, start a .pre .0 .few)
 
 join-requires-2 : tie.Need-join-requires-2 Inv-loop2 μ-loop2 Inv-loop μ-loop
+unfolding nodeOf
 join-requires-2 c κs =
     let i = c .before .before in
     let f = fine (turn i) in
@@ -278,14 +287,11 @@ loop2-again-2 c =
     (holds-joined (w .holds) (g .marked .holds) (c .join2 .ensures .1)))
 
 delay-requires : tie.Need-delay-requires Inv-loop2 μ-loop2 Inv-loop μ-loop
+unfolding nodeOf
 delay-requires c κs =
     let a = c .before .before .before .before in
     let f = fine a in
-    let e : at a ≡ 0 = c .if2 .taken in
-    let h : its a ≡ getD (start a .args .t1 .groups) 0 noFlow = rw e in (
-      holds-in-range (ended (c .before)) (f .few) (omega (arith, f .near)) (f .live),
-      omega (arith, ap (λ (g : Flow). g .burst) h, ap (λ (g : Flow). g .rate) h, start a .pre .0 .watched),
-    )
+    (holds-in-range (ended (c .before)) (f .few) (omega (arith, f .near)) (f .live), omega (arith, f .light))
 
 returns : tie.Need-returns Inv-loop2 μ-loop2 Inv-loop μ-loop
 returns c =
@@ -301,9 +307,10 @@ returns c =
     (subst (λ (n : ℕ). d ≡ delay (curveAt (ss s) (gs s) (xs s) n) (getD (gs s) n noFlow .burst) (getD (gs s) n noFlow .rate)) z f)
 
 least-wait-requires : tie.Need-least-wait-requires Inv-loop2 μ-loop2 Inv-loop μ-loop
+unfolding nodeOf
 least-wait-requires c κs =
     let f = fine (c .before .before .before .before) in
-    (holds-in-range (ended (c .before)) (f .few) (omega (arith, f .near)) (f .live), f .burst)
+    (holds-in-range (ended (c .before)) (f .few) (omega (arith, f .near)) (f .live), omega (arith, f .light))
 
 sub-wait : tie.Need-sub-wait Inv-loop2 μ-loop2 Inv-loop μ-loop
 sub-wait c = omega arith
@@ -315,13 +322,14 @@ array-read-wait : tie.Need-array-read-wait Inv-loop2 μ-loop2 Inv-loop μ-loop
 array-read-wait c = omega arith
 
 add-wait : tie.Need-add-wait Inv-loop2 μ-loop2 Inv-loop μ-loop
-add-wait c = omega (arith, waited c, fine (here c) .wait)
+add-wait c = omega (arith, waited c, soon (here c))
 
 remainder-requires : tie.Need-remainder-requires Inv-loop2 μ-loop2 Inv-loop μ-loop
+unfolding nodeOf
 remainder-requires c κs =
     let f = fine (here c) in
     let w = waited c in
-    holds-leaving _ _ _ (ended (c .before .before)) (f .few) (omega arith) (omega (arith, f .wait)) (f .live) (f .room)
+    holds-leaving _ _ _ (ended (c .before .before)) (f .few) (omega arith) (omega (arith, soon (here c))) (f .live) (f .room)
 
 mul-lefts : tie.Need-mul-lefts Inv-loop2 μ-loop2 Inv-loop μ-loop
 mul-lefts c = omega arith

@@ -1,25 +1,69 @@
 -- The point replaces the best so far only where its delay is less, as in the definition of the better of two answers.
 -- Assumes nothing.
-use mathlib.Core.Path.{sym}
+use mathlib.Core.Path.{_≡_, sym, ap, _∙_}
+use mathlib.Core.List.{List}
+use Prim.Native.Nat.{ℕ, _-_}
 use native.Mathlib.Omega.{arith}
-use Rattle.search.specs.Point.{answerHeld}
-use Rattle.search.specs.GridLaws.{better-yes, better-no}
 use borrow.Author.Needs.{needs}
+use lib.ListN.{take}
+use Rattle.tree.specs.Grid.{Answer}
+use Rattle.line.specs.Line.{serversIn, flowsIn}
+use Rattle.search.specs.Point.{answerBy, heldAt}
+use Rattle.search.specs.GridLaws.{better-yes, better-no}
+use Rattle.search.proofs.Searching.{held-is}
 use Rattle.search.proofs.try_point.Statement.{statement}
 use Rattle.search.proofs.try_point.Tie as tie
 
-evaluate-requires : tie.Need-evaluate-requires
-evaluate-requires c κs = search needs
+-- what stands at the point
+module _ (c : tie.After-settle) where
+  abbrev start : tie.Start
+  start = c .before .before .before .before .before
+
+  abbrev point : Answer
+  point = heldAt (serversIn (start .args .line) (start .args .size)) (flowsIn (start .args .flows .now) (start .args .count)) (take (start .args .count - 1) (start .args .extra .now))
+
+  tried : answerBy (c .settle .result) (c .settle .last .1 .1 .1 .1 .1 .0) ≡ point
+  tried =
+      let a = start .args in
+      held-is (serversIn (a .line) (a .size)) (a .flows .now) (a .count) (take (a .count - 1) (a .extra .now)) (c .settle .result) _ (c .settle .ensures .0) (c .settle .ensures .1)
+
+slice-aggregate-settle : tie.Need-slice-aggregate-settle
+slice-aggregate-settle c = search needs
+
+settle-requires : tie.Need-settle-requires
+settle-requires c κs = search needs
+
+slice-aggregate-copy : tie.Need-slice-aggregate-copy
+slice-aggregate-copy c = search needs
+
+copy-requires : tie.Need-copy-requires
+copy-requires c κs = search needs
+
+same-length : tie.Need-same-length
+same-length c = search needs
 
 returns : tie.Need-returns
 returns c =
-    let v = c .before .before .before in
-    rw (← v .evaluate .ensures) (sym (better-yes (answerHeld (v .before .args .best)) (answerHeld (v .evaluate .result)) (omega arith)))
+    let v = c .before .before .before .before .before .before .before in
+    let a = v .before .before .before .before .before .args in
+    let h = tried v in
+    ap (λ (w : List ℕ). answerBy (v .settle .result) w) (c .before .before .copy .ensures) ∙ h
+    ∙ sym (better-yes (answerBy (a .bound) (a .waits .now)) (point v) (omega (arith, ap (λ (o : Answer). o .delay) h, c .before .before .before .before .before .if1 .taken)))
 
 returns-2 : tie.Need-returns-2
 returns-2 c =
-    let v = c .before .before .before in
-    rw (← v .evaluate .ensures) (sym (better-no (answerHeld (v .before .args .best)) (answerHeld (v .evaluate .result)) (omega arith)))
+    let v = c .before .before in
+    let a = v .before .before .before .before .before .args in
+    sym (better-no (answerBy (a .bound) (a .waits .now)) (point v) (omega (arith, ap (λ (o : Answer). o .delay) (tried v), c .if1 .left)))
 
 pub try-point-spec : {M : Type 1} → statement M
-try-point-spec = tie.close (tie.spec evaluate-requires returns returns-2)
+try-point-spec =
+    tie.close
+    (tie.spec
+    slice-aggregate-settle
+    settle-requires
+    slice-aggregate-copy
+    copy-requires
+    same-length
+    returns
+    returns-2)

@@ -1,0 +1,94 @@
+-- A row's servers and flows planted one by one in lists of numbers: each that is planted stays, and all of them in order are the row's.
+-- Assumes nothing.
+use mathlib.Core.Path.{_≡_, refl, sym, ap, _∙_}
+use mathlib.Core.Logic.{_⊎_, inl, inr}
+use mathlib.Core.List.{List, [], _∷_, _++_}
+use Prim.Native.Nat.{ℕ, zero, suc, _+_, _*_, _≤_, _<_}
+use native.Mathlib.Omega.{arith}
+use lib.ListN.{length, getD, set, take, length-set}
+use lib.Seq.{take-suc, getD-set-same, getD-set-other}
+use Rattle.curves.specs.SlotsLaws.{le-or-lt}
+use Rattle.row.specs.declared.Server.{Server}
+use Rattle.row.specs.declared.Flow.{Flow}
+use Rattle.row.specs.OfSheet.{listed}
+use Rattle.line.specs.Line.{serverAt, flowAt}
+
+-- values that are a list's first n, in order
+pub listed-take : {B : Type 0} (n : ℕ) (f : ℕ → B) (l : List B) (d : B)
+    → n ≤ length l → ((m : ℕ) → m < n → f m ≡ getD l m d) → listed n f ≡ take n l
+unfolding listed
+listed-take zero f l d h e = refl
+listed-take (suc n) f l d h e =
+    let r : listed n f ≡ take n l = listed-take n f l d (omega arith) (λ m k. e m (omega arith)) in
+    let v : f n ≡ getD l n d = e n (omega arith) in
+    ap (λ (x : List _). x ++ (f n ∷ [])) r ∙ ap (λ (x : _). take n l ++ (x ∷ [])) v ∙ sym (take-suc l n d h)
+
+-- a server is planted at place i
+pub plant-server : (rates latencies : List ℕ) (i : ℕ) (ss : List Server) (d v : Server)
+    → i < length rates → i < length latencies → v ≡ getD ss i d
+    → ((m : ℕ) → m < i → serverAt (record { rates = rates; latencies = latencies }) m ≡ getD ss m d)
+    → (m : ℕ) → m < i + 1
+    → serverAt (record { rates = set rates i (v .rate); latencies = set latencies i (v .latency) }) m ≡ getD ss m d
+plant-server rates latencies i ss d v hr hl e inv m h = go (le-or-lt i m)
+  where
+    go : (i ≤ m) ⊎ (m < i) → serverAt (record { rates = set rates i (v .rate); latencies = set latencies i (v .latency) }) m ≡ getD ss m d
+    go (inl k) =
+        let q : m ≡ i = omega arith in
+        rw (q, getD-set-same rates i (v .rate) 0 hr, getD-set-same latencies i (v .latency) 0 hl) e
+    go (inr k) =
+        rw (getD-set-other rates i m (v .rate) 0 (λ q. omega arith), getD-set-other latencies i m (v .latency) 0 (λ q. omega arith)) (inv m k)
+
+-- the four numbers of a flow, stored from place 4 * k on
+abbrev pub planted : List ℕ → ℕ → Flow → List ℕ
+planted xs k v = set (set (set (set xs (4 * k) (v .first)) (4 * k + 1) (v .last)) (4 * k + 2) (v .burst)) (4 * k + 3) (v .rate)
+
+pub length-planted : (xs : List ℕ) (k : ℕ) (v : Flow) → length (planted xs k v) ≡ length xs
+length-planted xs k v =
+    length-set (set (set (set xs (4 * k) (v .first)) (4 * k + 1) (v .last)) (4 * k + 2) (v .burst)) (4 * k + 3) (v .rate)
+    ∙ length-set (set (set xs (4 * k) (v .first)) (4 * k + 1) (v .last)) (4 * k + 2) (v .burst)
+    ∙ length-set (set xs (4 * k) (v .first)) (4 * k + 1) (v .last)
+    ∙ length-set xs (4 * k) (v .first)
+
+-- a place before them keeps its number
+planted-other : (xs : List ℕ) (k : ℕ) (v : Flow) (j : ℕ) → j < 4 * k → getD (planted xs k v) j 0 ≡ getD xs j 0
+planted-other xs k v j h =
+    getD-set-other (set (set (set xs (4 * k) (v .first)) (4 * k + 1) (v .last)) (4 * k + 2) (v .burst)) (4 * k + 3) j (v .rate) 0 (λ q. omega arith)
+    ∙ getD-set-other (set (set xs (4 * k) (v .first)) (4 * k + 1) (v .last)) (4 * k + 2) j (v .burst) 0 (λ q. omega arith)
+    ∙ getD-set-other (set xs (4 * k) (v .first)) (4 * k + 1) j (v .last) 0 (λ q. omega arith)
+    ∙ getD-set-other xs (4 * k) j (v .first) 0 (λ q. omega arith)
+
+-- the flow planted at k
+planted-same : (xs : List ℕ) (k : ℕ) (v : Flow) → 4 * k + 3 < length xs → flowAt (planted xs k v) k ≡ v
+planted-same xs k v h =
+    let a = set xs (4 * k) (v .first) in
+    let b = set a (4 * k + 1) (v .last) in
+    let c = set b (4 * k + 2) (v .burst) in
+    let la : length a ≡ length xs = length-set xs (4 * k) (v .first) in
+    let lb : length b ≡ length a = length-set a (4 * k + 1) (v .last) in
+    let lc : length c ≡ length b = length-set b (4 * k + 2) (v .burst) in
+    let e0 : getD (planted xs k v) (4 * k) 0 ≡ v .first =
+    getD-set-other c (4 * k + 3) (4 * k) (v .rate) 0 (λ q. omega arith)
+    ∙ getD-set-other b (4 * k + 2) (4 * k) (v .burst) 0 (λ q. omega arith)
+    ∙ getD-set-other a (4 * k + 1) (4 * k) (v .last) 0 (λ q. omega arith)
+    ∙ getD-set-same xs (4 * k) (v .first) 0 (omega arith) in
+    let e1 : getD (planted xs k v) (4 * k + 1) 0 ≡ v .last =
+    getD-set-other c (4 * k + 3) (4 * k + 1) (v .rate) 0 (λ q. omega arith)
+    ∙ getD-set-other b (4 * k + 2) (4 * k + 1) (v .burst) 0 (λ q. omega arith)
+    ∙ getD-set-same a (4 * k + 1) (v .last) 0 (omega arith) in
+    let e2 : getD (planted xs k v) (4 * k + 2) 0 ≡ v .burst =
+    getD-set-other c (4 * k + 3) (4 * k + 2) (v .rate) 0 (λ q. omega arith)
+    ∙ getD-set-same b (4 * k + 2) (v .burst) 0 (omega arith) in
+    let e3 : getD (planted xs k v) (4 * k + 3) 0 ≡ v .rate = getD-set-same c (4 * k + 3) (v .rate) 0 (omega arith) in
+    rw (e0, e1, e2, e3)
+
+-- a flow is planted at place k
+pub plant-flow : (xs : List ℕ) (k : ℕ) (gs : List Flow) (d v : Flow)
+    → 4 * k + 3 < length xs → v ≡ getD gs k d
+    → ((m : ℕ) → m < k → flowAt xs m ≡ getD gs m d)
+    → (m : ℕ) → m < k + 1 → flowAt (planted xs k v) m ≡ getD gs m d
+plant-flow xs k gs d v h e inv m l = go (le-or-lt k m)
+  where
+    go : (k ≤ m) ⊎ (m < k) → flowAt (planted xs k v) m ≡ getD gs m d
+    go (inl j) = let q : m ≡ k = omega arith in rw q (planted-same xs k v h ∙ e)
+    go (inr j) =
+        rw (planted-other xs k v (4 * m) (omega arith), planted-other xs k v (4 * m + 1) (omega arith), planted-other xs k v (4 * m + 2) (omega arith), planted-other xs k v (4 * m + 3) (omega arith)) (inv m j)
