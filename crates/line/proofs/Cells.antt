@@ -9,10 +9,11 @@ use native.Mathlib.Omega.{arith}
 use lib.ListN.{length, getD, set, length-set}
 use lib.Seq.{getD-set-same, getD-set-other}
 use Rattle.curves.specs.declared.Stage.{Stage}
+use Rattle.row.specs.declared.Flow.{Flow}
 use Rattle.curves.specs.Curve.{All, greatest, catchUp, leastWait, after}
 use Rattle.curves.specs.Held.{Leaves}
 use Rattle.curves.specs.SlotsLaws.{le-or-lt}
-use Rattle.line.specs.Cells.{cellAt, stagesFrom, sumFrom, curveFrom, Left, Pooled}
+use Rattle.line.specs.Cells.{cellAt, stagesFrom, sumFrom, curveFrom, under, Left, Pooled}
 
 -- what is left of a stretch is its first server and the others
 
@@ -193,6 +194,10 @@ module _ {ss₀ ss : List ℕ} {a b j : ℕ} (t : Clearing ss₀ ss a b j) where
 pub wait-is : (bs rs sh : List ℕ) (i n σ : ℕ) → leastWait (curveFrom bs rs sh i n) σ ≡ sumFrom sh i n + greatest (catchUp σ) (stagesFrom bs rs i n)
 unfolding leastWait
 wait-is bs rs sh i n σ = refl
+
+pub wait-under : (bs rs sh : List ℕ) (g : Flow) → leastWait (under bs rs sh g) (g .burst)
+    ≡ under bs rs sh g .offset + greatest (catchUp (g .burst)) (under bs rs sh g .stages)
+wait-under bs rs sh g = wait-is bs rs sh (g .first - 1) (g .last - (g .first - 1)) (g .burst)
 
 -- the same group taken out, so many slots after the offset
 pub left-by : {bs rs bs′ rs′ : List ℕ} {a b σ ρ x y : ℕ} → Left bs rs bs′ rs′ a b σ ρ x → x ≡ y → Left bs rs bs′ rs′ a b σ ρ y

@@ -18,7 +18,7 @@ use Rattle.row.specs.OfSheetLaws.{length-listed, listed-at}
 use Rattle.tree.specs.Plan.{Top, alone, over, topOf, serverCurve, nodeOf, plan}
 use Rattle.tree.specs.Searched.{Each}
 use Rattle.line.specs.declared.Line.{Line}
-use Rattle.line.specs.Answer.{noFlow, waitsOf, answerOf, Placed, After, Ordered}
+use Rattle.line.specs.Answer.{noFlow, waitsOf, answerOf, delayUpTo, delayBelow, Placed, After, Ordered}
 use Rattle.line.specs.Line.{serverAt, serversIn}
 use Rattle.line.specs.Cells.{curveFrom, Left, Pooled}
 use Rattle.line.proofs.Nodes.{planFrom, curveAt, nodeAt, plan-at, plan-length}
@@ -162,8 +162,8 @@ module _ (ss : List Server) (gs : List Flow) (xs ws₀ : List ℕ) (o : Ordered 
 
 -- the watched flow's node is the last: what the code gives is the answer at the point
 pub settled-root : (ss : List Server) (gs : List Flow) (es ws₀ bs rs sh ws : List ℕ) → Settled ss gs (0 ∷ es) ws₀ 1 bs rs sh ws → 0 < length gs
-    → (r : ℕ) → r ≡ delay (curveAt ss gs (0 ∷ es) 0) (getD gs 0 noFlow .burst) (getD gs 0 noFlow .rate)
-    → (r ≡ answerOf ss gs es .delay) × (ws ≡ answerOf ss gs es .waits ++ drop (length gs - 1) ws₀)
-unfolding answerOf plan nodeOf
-settled-root ss [] es ws₀ bs rs sh ws s p r e = absurd (omega arith)
-settled-root ss (g ∷ gs) es ws₀ bs rs sh ws s p r e = (e, s .waits)
+    → (bound r : ℕ) → r ≡ delayUpTo bound (curveAt ss gs (0 ∷ es) 0) (getD gs 0 noFlow .burst) (getD gs 0 noFlow .rate)
+    → (r ≡ delayBelow bound ss gs es) × (ws ≡ answerOf ss gs es .waits ++ drop (length gs - 1) ws₀)
+unfolding answerOf delayBelow plan nodeOf
+settled-root ss [] es ws₀ bs rs sh ws s p bound r e = absurd (omega arith)
+settled-root ss (g ∷ gs) es ws₀ bs rs sh ws s p bound r e = (e, s .waits)

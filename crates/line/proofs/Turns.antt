@@ -14,30 +14,12 @@ use Rattle.row.specs.OfSheetLaws.{length-listed, listed-at}
 use Rattle.tree.specs.Plan.{nodeOf}
 use Rattle.tree.specs.Fine.{Fine}
 use Rattle.line.specs.declared.Line.{Line}
-use Rattle.line.specs.Answer.{noFlow, answerOf, Placed, Workable}
+use Rattle.line.specs.Answer.{noFlow, answerOf, delayUpTo, delayBelow, Placed, Workable}
 use Rattle.line.specs.Line.{flowAt, serversIn, flowsIn}
-use Rattle.line.specs.Cells.{curveFrom, Left, Pooled, Held, Takes}
+use Rattle.line.specs.Cells.{under, Left, Pooled, Held, Takes}
 use Rattle.line.proofs.Nodes.{curveAt, nodeAt, extra-at, fine-at}
 use Rattle.line.proofs.Cells.{left-by}
 use Rattle.line.proofs.Settling.{Settled, settled-curve, placed-at, settled-more, settled-root}
-
--- the stretch under the path of a flow
-abbrev pub under : List ℕ → List ℕ → List ℕ → Flow → Shape
-under bs rs sh g = curveFrom bs rs sh (g .first - 1) (g .last - (g .first - 1))
-
--- the stretch under a path is held, where its curve is that of a node in range
-held-by : (bs rs sh : List ℕ) (g : Flow) (c : Shape) (σ : ℕ) → c ≡ under bs rs sh g → Placed 16 g → length bs ≡ 16 → length rs ≡ 16 → length sh ≡ 16
-    → All Live (c .stages) → c .offset < 68719476736 → σ < 1099511627776 → Held bs rs sh (g .first - 1) (g .last) σ
-held-by bs rs sh g c σ e p b r s l o h =
-    record {
-      some = omega (arith, p .enters, p .onward);
-      bursts-long = omega (arith, p .leaves);
-      rates-long = omega (arith, p .leaves);
-      shares-long = omega (arith, p .leaves);
-      live = rw e at l;
-      near = rw e at o;
-      light = h;
-    }
 
 module _ (line : Line) (n : ℕ) (flows : List ℕ) (count : ℕ) (extra ws₀ : List ℕ)
     (h : Workable (serversIn line n) (flowsIn flows count) (take (count - 1) extra))
@@ -74,11 +56,20 @@ module _ (line : Line) (n : ℕ) (flows : List ℕ) (count : ℕ) (extra ws₀ :
       fine : Fine (nodeAt ss gs xs k) (flowAt flows k)
       fine = subst (λ (g : Flow). Fine (nodeAt ss gs xs k) g) group-is (fine-at ss gs xs k inside (h .fine))
 
-      held : (σ : ℕ) → σ ≤ flowAt flows k .burst + flowAt flows k .rate → Held bs rs sh (flowAt flows k .first - 1) (flowAt flows k .last) σ
+      held : (σ : ℕ) → σ ≤ flowAt flows k .burst + flowAt flows k .rate → Held bs rs sh (flowAt flows k) σ
       unfolding nodeOf
       held σ e =
-          held-by bs rs sh (flowAt flows k) (curveAt ss gs xs k) σ curve-under placed (s .bursts-full) (s .rates-full) (s .shares-full)
-          (fine .live) (fine .near) (omega (arith, fine .light))
+          let p = placed in
+          record {
+            enters = p .enters;
+            onward = p .onward;
+            bursts-long = omega (arith, p .leaves, s .bursts-full);
+            rates-long = omega (arith, p .leaves, s .rates-full);
+            shares-long = omega (arith, p .leaves, s .shares-full);
+            live = rw curve-under at (fine .live);
+            near = rw curve-under at (fine .near);
+            light = omega (arith, fine .light);
+          }
 
       -- its wait, by the node and by the line
       wait-under : 0 < k → nodeAt ss gs xs k .wait ≡ leastWait (under bs rs sh (flowAt flows k)) (flowAt flows k .burst) + getD extra (k - 1) 0
@@ -89,8 +80,7 @@ module _ (line : Line) (n : ℕ) (flows : List ℕ) (count : ℕ) (extra ws₀ :
           ∙ ap (λ (g : Flow). leastWait c (g .burst) + getD xs k 0) group-is
           ∙ ap (λ (e : ℕ). leastWait c (flowAt flows k .burst) + e) (extra-at (count - 1) extra k z (omega arith))
 
-      pub turn-takes : 0 < k
-          → Takes bs rs sh (getD flows (4 * k) 0 - 1) (getD flows (4 * k + 1) 0) (getD flows (4 * k + 2) 0) (getD flows (4 * k + 3) 0) (getD extra (k - 1) 0)
+      pub turn-takes : 0 < k → Takes bs rs sh (flowAt flows k) (getD extra (k - 1) 0)
       unfolding nodeOf
       turn-takes z =
           record {
@@ -111,21 +101,18 @@ module _ (line : Line) (n : ℕ) (flows : List ℕ) (count : ℕ) (extra ws₀ :
           (left-by l (ap (λ (c : Shape). w - c .offset) (sym curve-under))))
           (subst (λ (g : Flow). Pooled sh sh′ (g .first - 1) (g .last) w) (sym group-is) q) m z (omega (arith, h .few, groups-are))
 
-    pub root-enters : (bs rs sh ws : List ℕ) → Settled ss gs xs ws₀ 1 bs rs sh ws → 1 ≤ getD flows 0 0
-    root-enters bs rs sh ws s = placed bs rs sh ws 0 (omega (arith, h .some, groups-are)) s .enters
+    pub root-held : (bs rs sh ws : List ℕ) → Settled ss gs xs ws₀ 1 bs rs sh ws → Held bs rs sh (flowAt flows 0) (flowAt flows 0 .burst + flowAt flows 0 .rate)
+    root-held bs rs sh ws s = held bs rs sh ws 0 (omega (arith, h .some, groups-are)) s (flowAt flows 0 .burst + flowAt flows 0 .rate) (omega arith)
 
-    pub root-held : (bs rs sh ws : List ℕ) → Settled ss gs xs ws₀ 1 bs rs sh ws
-        → Held bs rs sh (getD flows 0 0 - 1) (getD flows 1 0) (getD flows 2 0 + getD flows 3 0)
-    root-held bs rs sh ws s = held bs rs sh ws 0 (omega (arith, h .some, groups-are)) s (getD flows 2 0 + getD flows 3 0) (omega arith)
-
-    pub root-is : (bs rs sh ws : List ℕ) → Settled ss gs xs ws₀ 1 bs rs sh ws → (r : ℕ)
-        → r ≡ delay (curveFrom bs rs sh (getD flows 0 0 - 1) (getD flows 1 0 - (getD flows 0 0 - 1))) (getD flows 2 0) (getD flows 3 0)
-        → (r ≡ answerOf ss gs (take (count - 1) extra) .delay) × (ws ≡ answerOf ss gs (take (count - 1) extra) .waits ++ drop (count - 1) ws₀)
-    root-is bs rs sh ws s r e =
+    pub root-is : (bs rs sh ws : List ℕ) → Settled ss gs xs ws₀ 1 bs rs sh ws → (bound r : ℕ)
+        → r ≡ delayUpTo bound (under bs rs sh (flowAt flows 0)) (flowAt flows 0 .burst) (flowAt flows 0 .rate)
+        → (r ≡ delayBelow bound ss gs (take (count - 1) extra)) × (ws ≡ answerOf ss gs (take (count - 1) extra) .waits ++ drop (count - 1) ws₀)
+    root-is bs rs sh ws s bound r e =
         let p : 0 < count = omega (arith, h .some, groups-are) in
         let c = curve-under bs rs sh ws 0 p s in
         let g = group-is bs rs sh ws 0 p s in
-        let d : r ≡ delay (curveAt ss gs xs 0) (getD gs 0 noFlow .burst) (getD gs 0 noFlow .rate) =
-        subst (λ (f : Flow). r ≡ delay (curveAt ss gs xs 0) (f .burst) (f .rate)) (sym g) (rw c e) in
-        let z = settled-root ss gs (take (count - 1) extra) ws₀ bs rs sh ws s (h .some) r d in
+        let d : r ≡ delayUpTo bound (curveAt ss gs xs 0) (getD gs 0 noFlow .burst) (getD gs 0 noFlow .rate) =
+        subst (λ (f : Flow). r ≡ delayUpTo bound (curveAt ss gs xs 0) (f .burst) (f .rate)) (sym g)
+        (subst (λ (x : Shape). r ≡ delayUpTo bound x (flowAt flows 0 .burst) (flowAt flows 0 .rate)) (sym c) e) in
+        let z = settled-root ss gs (take (count - 1) extra) ws₀ bs rs sh ws s (h .some) bound r d in
         (z .0, z .1 ∙ ap (λ (m : ℕ). answerOf ss gs (take (count - 1) extra) .waits ++ drop (m - 1) ws₀) groups-are)

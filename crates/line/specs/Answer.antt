@@ -3,8 +3,10 @@
 use mathlib.Core.List.{List, [], _∷_, map}
 use mathlib.Core.Logic.{_⊎_}
 use Prim.Native.Nat.{ℕ, _≤_, _<_}
+use mathlib.Core.Bool.{cond}
+use lib.Dec.{leb}
 use lib.ListN.{length}
-use Rattle.curves.specs.Curve.{delay}
+use Rattle.curves.specs.Curve.{Shape, delay}
 use Rattle.row.specs.declared.Server.{Server}
 use Rattle.row.specs.declared.Flow.{Flow}
 use Rattle.tree.specs.Plan.{Node, plan}
@@ -27,6 +29,19 @@ answerIn (g ∷ gs) (n ∷ ns) = record { delay = delay (n .curve) (g .burst) (g
 -- the answer at the point es, of the watched flow and the groups behind it: the extras of the groups in order; the watched flow has none
 unfoldable pub answerOf : List Server → List Flow → List ℕ → Answer
 answerOf ss gs es = answerIn gs (plan ss gs (0 ∷ es))
+
+-- a bucket's delay over a curve, or the curve's offset where that is no less than `bound`: no delay is below the offset
+abbrev pub delayUpTo : ℕ → Shape → ℕ → ℕ → ℕ
+delayUpTo bound c σ ρ = cond (leb bound (c .offset)) (c .offset) (delay c σ ρ)
+
+abbrev pub delayIn : ℕ → List Flow → List Node → ℕ
+delayIn bound [] ns = 0
+delayIn bound (g ∷ gs) [] = 0
+delayIn bound (g ∷ gs) (n ∷ ns) = delayUpTo bound (n .curve) (g .burst) (g .rate)
+
+-- the delay at the point es as far as it is below `bound`
+unfoldable pub delayBelow : ℕ → List Server → List Flow → List ℕ → ℕ
+delayBelow bound ss gs es = delayIn bound gs (plan ss gs (0 ∷ es))
 
 -- a path in a row of n servers
 pub record Placed (n : ℕ) (g : Flow) : Type 0 where

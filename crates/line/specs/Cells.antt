@@ -7,6 +7,7 @@ use mathlib.Core.List.{List, [], _∷_}
 use Prim.Native.Nat.{ℕ, zero, suc, _+_, _-_, _≤_, _<_, _^_}
 use lib.ListN.{length, getD}
 use Rattle.curves.specs.declared.Stage.{Stage}
+use Rattle.row.specs.declared.Flow.{Flow}
 use Rattle.curves.specs.Curve.{Shape, All, Rates, after, leastWait}
 use Rattle.curves.specs.Held.{Live}
 
@@ -28,6 +29,10 @@ sumFrom shares j (suc n) = getD shares j 0 + sumFrom shares (suc j) n
 abbrev pub curveFrom : List ℕ → List ℕ → List ℕ → ℕ → ℕ → Shape
 curveFrom bursts rates shares j n = record { offset = sumFrom shares j n; stages = stagesFrom bursts rates j n }
 
+-- the curve of the servers under a flow's path
+abbrev pub under : List ℕ → List ℕ → List ℕ → Flow → Shape
+under bursts rates shares g = curveFrom bursts rates shares (g .first - 1) (g .last - (g .first - 1))
+
 -- a group (σ, ρ) is taken out of the servers from `a` up to before `b`, x slots after their offset
 pub record Left (bursts rates bursts′ rates′ : List ℕ) (a b σ ρ x : ℕ) : Type 0 where
   pub bursts-long : length bursts′ ≡ length bursts
@@ -42,18 +47,19 @@ pub record Pooled (shares shares′ : List ℕ) (a b w : ℕ) : Type 0 where
   pub rest : (j : ℕ) → a < j → j < b → getD shares′ j 0 ≡ 0
   pub outside : (j : ℕ) → (j < a) ⊎ (b ≤ j) → getD shares′ j 0 ≡ getD shares j 0
 
--- the servers from `a` up to before `b` are there, their numbers are in range, and so is a burst σ
-pub record Held (bursts rates shares : List ℕ) (a b σ : ℕ) : Type 0 where
-  pub some : a < b
-  pub bursts-long : b ≤ length bursts
-  pub rates-long : b ≤ length rates
-  pub shares-long : b ≤ length shares
-  pub live : All Live (stagesFrom bursts rates a (b - a))
-  pub near : sumFrom shares a (b - a) < 2 ^ 36
+-- the servers under a flow's path are there, their numbers are in range, and so is a burst σ
+pub record Held (bursts rates shares : List ℕ) (g : Flow) (σ : ℕ) : Type 0 where
+  pub enters : 1 ≤ g .first
+  pub onward : g .first ≤ g .last
+  pub bursts-long : g .last ≤ length bursts
+  pub rates-long : g .last ≤ length rates
+  pub shares-long : g .last ≤ length shares
+  pub live : All Live (under bursts rates shares g .stages)
+  pub near : under bursts rates shares g .offset < 2 ^ 36
   pub light : σ < 2 ^ 40
 
--- a group (σ, ρ) can be taken out of them with extra e
-pub record Takes (bursts rates shares : List ℕ) (a b σ ρ e : ℕ) : Type 0 where
-  pub held : Held bursts rates shares a b σ
-  pub room : Rates ρ (stagesFrom bursts rates a (b - a))
-  pub soon : leastWait (curveFrom bursts rates shares a (b - a)) σ + e < 2 ^ 42
+-- a group can be taken out of them with extra e
+pub record Takes (bursts rates shares : List ℕ) (g : Flow) (e : ℕ) : Type 0 where
+  pub held : Held bursts rates shares g (g .burst)
+  pub room : Rates (g .rate) (under bursts rates shares g .stages)
+  pub soon : leastWait (under bursts rates shares g) (g .burst) + e < 2 ^ 42

@@ -1,4 +1,5 @@
 pub mod Answer
+pub mod AnswerLaws
 pub mod OrderLaws
 pub mod Line
 pub mod Cells

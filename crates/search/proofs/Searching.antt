@@ -19,7 +19,8 @@ use Rattle.tree.specs.Searched.{Each}
 use Rattle.tree.specs.GridLaws.{each-map}
 use Rattle.tree.specs.PruneLaws.{latenciesOf}
 use Rattle.line.specs.declared.Line.{Line}
-use Rattle.line.specs.Answer.{answerOf, Workable}
+use Rattle.line.specs.Answer.{answerOf, delayBelow, Workable}
+use Rattle.line.specs.AnswerLaws.{delay-below}
 use Rattle.line.specs.Line.{serverAt, flowAt, serversIn, flowsIn}
 use Rattle.line.specs.Cells.{sumFrom}
 use Rattle.line.proofs.Nodes.{plan-length}
@@ -107,6 +108,13 @@ module _ (row : Row) (h : Searchable row) where
 
     pub latencies-small : sumFrom (line .latencies) 0 (row .size) < 2 ^ 62
     latencies-small = omega (arith, first-good .above, h .near, latencies-are line (row .size), ap latencies s)
+
+    -- the start is below 2^32, so it is worked out whole
+    pub start-is : (start : ℕ) → start ≡ delayBelow 4294967296 (serversIn line (row .size)) (flowsIn flows (row .count)) (take (row .count - 1) (replicate 32 0))
+        → start ≡ answerOf (serversIn line (row .size)) (flowsIn flows (row .count)) (take (row .count - 1) (replicate 32 0)) .delay
+    start-is start e =
+        let b = delay-below 4294967296 (serversIn line (row .size)) (flowsIn flows (row .count)) (take (row .count - 1) (replicate 32 0)) in
+        e ∙ b .all (rw (s, f, zeros-are) (h .near))
 
     module _ (start : ℕ) (d : start ≡ answerOf (serversIn line (row .size)) (flowsIn flows (row .count)) (take (row .count - 1) (replicate 32 0)) .delay) where
       pub first-delay : start ≡ firstOf row .delay

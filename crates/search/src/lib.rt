@@ -145,7 +145,7 @@ fn try_point(
     ensures { λ r. ⌜ answerBy r (now (waits .exit)) ≡ better (answerBy bound (now (waits .entry))) (heldAt (serversIn line size) (flowsIn (now (flows .entry)) count) (take (count - 1) (now (extra .entry)))) ⌝ }
 {
     let mut trial = [0u64; 32];
-    let delay = line::settle(line, size, flows, count, extra, &mut trial);
+    let delay = line::settle(line, size, flows, count, extra, bound, &mut trial);
     if delay < bound {
         copy(&trial, waits);
         return delay;
@@ -233,7 +233,7 @@ fn over_grid(row: Row) -> Found
     let count = row.count;
     let mut extra = [0u64; 32];
     let mut waits = [0u64; 32];
-    let start = line::settle(line, size, &flows, count, &extra, &mut waits);
+    let start = line::settle(line, size, &flows, count, &extra, 4294967296, &mut waits);
     let steps = steps_of(start, row.grid);
     let n = steps.count;
     let values = steps.values;

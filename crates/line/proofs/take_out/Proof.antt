@@ -8,13 +8,16 @@ use borrow.Author.Needs.{needs}
 use Rattle.curves.specs.Curve.{Shape, All, leastWait}
 use Rattle.curves.specs.Held.{Leaves}
 use Rattle.curves.specs.HeldLaws.{leaves-after-wait}
-use Rattle.line.specs.Cells.{curveFrom}
-use Rattle.line.proofs.Cells.{wait-is, left-by}
+use Rattle.line.specs.Cells.{under}
+use Rattle.line.proofs.Cells.{wait-under, left-by}
 use Rattle.line.proofs.take_out.Statement.{statement}
 use Rattle.line.proofs.take_out.Tie as tie
 
 abbrev start : tie.After-lag → tie.Start
-start c = c .before .before .before .before .before .before
+start c = c .before .before .before .before .before .before .before
+
+sub-from : tie.Need-sub-from
+sub-from c = search needs
 
 lag-requires : tie.Need-lag-requires
 lag-requires c κs = search needs
@@ -23,10 +26,7 @@ add-gap : tie.Need-add-gap
 add-gap c =
     let s = start c in
     let a = s .args in
-    omega (arith, c .lag .ensures, wait-is (a .bursts .now) (a .rates .now) (a .shares .now) (a .from) (a .to - a .from) (a .sigma), s .pre .soon)
-
-sum-requires : tie.Need-sum-requires
-sum-requires c κs = search needs
+    omega (arith, c .lag .ensures, wait-under (a .bursts .now) (a .rates .now) (a .shares .now) (a .g), s .pre .soon)
 
 -- the wait, and how far behind the offset it lies
 module _ (c : tie.After-sum) where
@@ -37,23 +37,26 @@ module _ (c : tie.After-sum) where
   gap = c .before .before .lag .result + entry .args .extra
 
   abbrev curve : Shape
-  curve = curveFrom (entry .args .bursts .now) (entry .args .rates .now) (entry .args .shares .now) (entry .args .from) (entry .args .to - entry .args .from)
+  curve = under (entry .args .bursts .now) (entry .args .rates .now) (entry .args .shares .now) (entry .args .g)
 
-  waited : c .sum .result + gap ≡ leastWait curve (entry .args .sigma) + entry .args .extra
+  waited : c .sum .result + gap ≡ leastWait curve (entry .args .g .burst) + entry .args .extra
   waited =
       let a = entry .args in
-      omega (arith, c .sum .ensures, c .before .before .lag .ensures, wait-is (a .bursts .now) (a .rates .now) (a .shares .now) (a .from) (a .to - a .from) (a .sigma))
+      omega (arith, c .sum .ensures, c .before .before .lag .ensures, wait-under (a .bursts .now) (a .rates .now) (a .shares .now) (a .g))
 
   behind : c .sum .result + gap - curve .offset ≡ gap
   behind = omega (arith, c .sum .ensures)
 
-  leaves : All (Leaves (entry .args .sigma) (entry .args .rho) gap) (curve .stages)
+  leaves : All (Leaves (entry .args .g .burst) (entry .args .g .rate) gap) (curve .stages)
   leaves =
-      let a = entry .args in
+      let g = entry .args .g in
       let h = entry .pre in
       let w = waited in
-      subst (λ (x : ℕ). All (Leaves (a .sigma) (a .rho) x) (curve .stages)) behind
-      (leaves-after-wait curve (a .sigma) (a .rho) (c .sum .result + gap) (omega arith) (omega (arith, h .soon)) (h .held .live) (h .room))
+      subst (λ (x : ℕ). All (Leaves (g .burst) (g .rate) x) (curve .stages)) behind
+      (leaves-after-wait curve (g .burst) (g .rate) (c .sum .result + gap) (omega arith) (omega (arith, h .soon)) (h .held .live) (h .room))
+
+sum-requires : tie.Need-sum-requires
+sum-requires c κs = search needs
 
 add-wait : tie.Need-add-wait
 add-wait c = omega (arith, waited c, entry c .pre .soon)
@@ -79,18 +82,14 @@ same-length-3 c = search needs
 returns : tie.Need-returns
 returns c =
     let l = c .before .before .before .before .before .before .before .before in
-    let v = l .before .before .before in (
-      waited v,
-      (
-        left-by (l .leave .ensures) (sym (behind v)),
-        c .before .before .pool .ensures,
-      ),
-    )
+    let v = l .before .before .before in
+    (waited v, (left-by (l .leave .ensures) (sym (behind v)), c .before .before .pool .ensures))
 
 pub take-out-spec : {M : Type 1} → statement M
 take-out-spec =
     tie.close
     (tie.spec
+    sub-from
     lag-requires
     add-gap
     sum-requires

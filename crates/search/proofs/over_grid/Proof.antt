@@ -5,9 +5,12 @@ use mathlib.Core.Path.{_≡_, refl, sym}
 use Prim.Native.Nat.{_-_}
 use native.Mathlib.Omega.{arith}
 use borrow.Author.Needs.{needs}
+use lib.ListN.{take, replicate}
 use lib.Seq.{length-take-le}
+use Rattle.line.specs.Answer.{answerOf}
+use Rattle.line.specs.Line.{serversIn, flowsIn}
 use Rattle.search.specs.Steps.{valuesOf}
-use Rattle.search.proofs.Searching.{first-works, latencies-small, first-delay, scan-ready, search-is}
+use Rattle.search.proofs.Searching.{first-works, latencies-small, start-is, first-delay, scan-ready, search-is}
 use Rattle.search.proofs.over_grid.Statement.{statement}
 use Rattle.search.proofs.over_grid.Tie as tie
 
@@ -33,6 +36,16 @@ settle-requires c κs =
     let s = l .before in
     (first-works (s .args .row) (s .pre .0) (l .line-of .result) (g .flows-of .result) (l .line-of .ensures .1) (g .flows-of .ensures .1), g .flows-of .ensures .0, refl, refl)
 
+-- the start
+started : (v : tie.After-settle) → let g = v .before .before .before .before in let s = g .before .before in
+    v .settle .result ≡ answerOf (serversIn (g .before .line-of .result) (s .args .row .size)) (flowsIn (g .flows-of .result) (s .args .row .count))
+    (take (s .args .row .count - 1) (replicate 32 0)) .delay
+started v =
+    let g = v .before .before .before .before in
+    let l = g .before in
+    let s = l .before in
+    start-is (s .args .row) (s .pre .0) (l .line-of .result) (g .flows-of .result) (l .line-of .ensures .1) (g .flows-of .ensures .1) (v .settle .result) (v .settle .ensures .0)
+
 steps-of-requires : tie.Need-steps-of-requires
 steps-of-requires c κs =
     let v = c .before in
@@ -42,7 +55,7 @@ steps-of-requires c κs =
     let h = s .pre .0 in (
       h .coarse,
       h .dense,
-      omega (arith, h .near, first-delay (s .args .row) h (l .line-of .result) (g .flows-of .result) (l .line-of .ensures .1) (g .flows-of .ensures .1) (v .settle .result) (v .settle .ensures .0)),
+      omega (arith, h .near, first-delay (s .args .row) h (l .line-of .result) (g .flows-of .result) (l .line-of .ensures .1) (g .flows-of .ensures .1) (v .settle .result) (started v)),
     )
 
 slice-aggregate-sum : tie.Need-slice-aggregate-sum
@@ -85,11 +98,11 @@ scan-requires c κs =
     let l = g .before in
     let s = l .before in
     let z : s .args .row .size - 0 ≡ s .args .row .size = omega arith in (
-      scan-ready (s .args .row) (s .pre .0) (l .line-of .result) (g .flows-of .result) (l .line-of .ensures .1) (g .flows-of .ensures .1) (v .settle .result) (v .settle .ensures .0)
+      scan-ready (s .args .row) (s .pre .0) (l .line-of .result) (g .flows-of .result) (l .line-of .ensures .1) (g .flows-of .ensures .1) (v .settle .result) (started v)
           (valuesOf (t .steps-of .result)) (t .steps-of .ensures .2) (m .sum .result) (rw z at (m .sum .ensures)),
       g .flows-of .ensures .0,
       refl,
-      v .settle .kept .1 .1 .1 .1 .1 .0,
+      v .settle .kept .1 .1 .1 .1 .1 .1 .0,
     )
 
 returns : tie.Need-returns
@@ -100,7 +113,7 @@ returns c =
     let g = v .before .before .before .before in
     let l = g .before in
     let s = l .before in
-    search-is (s .args .row) (s .pre .0) (l .line-of .result) (g .flows-of .result) (l .line-of .ensures .1) (g .flows-of .ensures .1) (v .settle .result) (v .settle .ensures .0)
+    search-is (s .args .row) (s .pre .0) (l .line-of .result) (g .flows-of .result) (l .line-of .ensures .1) (g .flows-of .ensures .1) (v .settle .result) (started v)
     (valuesOf (t .steps-of .result)) (t .steps-of .ensures .2) (k .scan .result) _ _ (s .pre .1) (v .settle .ensures .1) (k .scan .ensures .0)
 
 pub over-grid-spec : {M : Type 1} → statement M
