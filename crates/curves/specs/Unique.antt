@@ -1,11 +1,18 @@
 -- Each public function leaves one possible result: its contract is an equation, and two results that both meet it are equal.
 -- Assumes nothing.
 use mathlib.Core.Path.{_≡_, sym, _∙_}
-use Prim.Native.Nat.{ℕ}
+use Prim.Native.Nat.{ℕ, max}
 use lib.ListN.{drop, replicate}
+use Rattle.curves.specs.declared.Stage.{Stage}
 use Rattle.curves.specs.declared.Curve.{Curve}
-use Rattle.curves.specs.Curve.{neutral, server, joined, remainder, leastWait, delay}
+use Rattle.curves.specs.Curve.{neutral, server, joined, after, remainder, catchUp, leastWait, delay}
 use Rattle.curves.specs.Held.{shapeOf, spare, held, blank}
+
+pub catch-up-unique : (s : Stage) (σ most a b : ℕ) → a ≡ max most (catchUp σ s) → b ≡ max most (catchUp σ s) → a ≡ b
+catch-up-unique s σ most a b h k = h ∙ sym k
+
+pub after-unique : (s : Stage) (σ ρ x : ℕ) (a b : Stage) → a ≡ after σ ρ x s → b ≡ after σ ρ x s → a ≡ b
+after-unique s σ ρ x a b h k = h ∙ sym k
 
 pub none-unique : (a b : Curve) → a ≡ held neutral (replicate 16 blank) → b ≡ held neutral (replicate 16 blank) → a ≡ b
 none-unique a b h k = h ∙ sym k

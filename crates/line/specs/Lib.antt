@@ -3,3 +3,4 @@ pub mod AnswerLaws
 pub mod OrderLaws
 pub mod Line
 pub mod Cells
+pub mod Unique
