@@ -11,18 +11,19 @@ use borrow.Author.Tests.{eqb-true, eqb-false}
 use lib.Dec.{eqb}
 use lib.ListN.{length, take, drop, getD, set, replicate, take-append-drop, drop-of-length-le}
 use lib.Seq.{drop-cons}
-use Rattle.curves.specs.Curve.{Shape, after, remainder, delay, server}
+use Rattle.curves.specs.Curve.{Shape, after, remainder, server}
 use Rattle.row.specs.declared.Server.{Server}
 use Rattle.row.specs.declared.Flow.{Flow}
 use Rattle.row.specs.OfSheetLaws.{length-listed, listed-at}
 use Rattle.tree.specs.Plan.{Top, alone, over, topOf, serverCurve, nodeOf, plan}
 use Rattle.tree.specs.Searched.{Each}
+use Rattle.tree.specs.GridLaws.{each-map}
 use Rattle.line.specs.declared.Line.{Line}
 use Rattle.line.specs.Answer.{noFlow, waitsOf, answerOf, delayUpTo, delayBelow, Placed, After, Ordered}
 use Rattle.line.specs.Line.{serverAt, serversIn}
 use Rattle.line.specs.Cells.{curveFrom, Left, Pooled}
 use Rattle.line.proofs.Nodes.{planFrom, curveAt, nodeAt, plan-at, plan-length}
-use Rattle.line.proofs.Tiles.{Begins, begins, Tile, Tiled, curve-is, same-curve, left-curve, each-map}
+use Rattle.line.proofs.Tiles.{Begins, begins, Tile, Tiled, curve-is, same-curve, left-curve}
 
 -- flows from k on, in order and placed
 

@@ -19,12 +19,9 @@ use Rattle.row.specs.declared.Server.{Server}
 use Rattle.row.specs.declared.Flow.{Flow}
 use Rattle.tree.specs.Plan.{Node, Top, alone, over, topOf, serverCurve, along, nodeCurve}
 use Rattle.tree.specs.Searched.{Each}
+use Rattle.tree.specs.GridLaws.{each-map}
 use Rattle.line.specs.Answer.{Placed, After, Ordered}
 use Rattle.line.specs.Cells.{cellAt, stagesFrom, sumFrom, curveFrom, Left, Pooled}
-
-pub each-map : {A : Type 0} (P Q : A → Type 0) (l : List A) → ((x : A) → P x → Q x) → Each P l → Each Q l
-each-map P Q [] f e = tt
-each-map P Q (x ∷ l) f e = (f x (e .0), each-map P Q l f (e .1))
 
 -- a walk along a path, by what begins at server j
 

@@ -2,19 +2,15 @@
 -- Assumes nothing.
 use Prim.Native.Nat.{ℕ, zero, suc, _+_, _≤_, _<_}
 use mathlib.Core.Path.{_≡_, refl, sym, ap, _∙_}
-use mathlib.Core.List.{List, [], _∷_, _++_}
-use native.Mathlib.Nat.{add-zero}
+use mathlib.Core.List.{List, [], _++_}
 use native.Mathlib.Numerals.{add-one}
 use native.Mathlib.Omega.{arith}
-use lib.ListN.{length, getD, drop, set, length-append}
+use lib.ListN.{length, getD, drop, length-append}
 use lib.Seq.{sets, length-sets, drop-cons}
 use Rattle.row.specs.declared.Flow.{Flow}
 use Rattle.listing.specs.Text.{groupLine}
+use Rattle.sheet.proofs.Writing.{sets-append}
 use Rattle.listing.specs.Held.{linesOf}
-
-sets-append : (l : List ℕ) (i : ℕ) (a b : List ℕ) → sets l i (a ++ b) ≡ sets (sets l i a) (i + length a) b
-sets-append l i [] b = rw (add-zero i)
-sets-append l i (x ∷ a) b = let e : suc i + length a ≡ i + suc (length a) = omega arith in sets-append (set l i x) (suc i) a b ∙ rw e
 
 -- these bytes were put at a place: the place behind them, and what the page then holds
 abbrev pub Puts : List ℕ → List ℕ → ℕ → ℕ → List ℕ → Type 0

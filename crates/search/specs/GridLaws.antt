@@ -8,14 +8,14 @@ use Prim.Native.Nat.{ℕ, zero, suc, _+_, _≤_, _<_}
 use native.Mathlib.Nat.{le-trans}
 use native.Mathlib.Numerals.{add-one}
 use native.Mathlib.Omega.{arith}
-use borrow.Author.Tests.{lt-ltb, le-ltb, ltb-true, ltb-false, eqb-true}
+use borrow.Author.Tests.{lt-ltb, ltb-true, ltb-false, eqb-true}
 use lib.Dec.{ltb, eqb}
 use lib.ListN.{length, take, getD, length-append}
 use lib.Seq.{take-suc}
 use Rattle.row.specs.OfSheet.{listed}
 use Rattle.tree.specs.Grid.{Answer, flat, pointsFrom, pointsOf, stepsOf, better, bestOf}
 use Rattle.tree.specs.Searched.{Each}
-use Rattle.tree.specs.GridLaws.{best-le, best-append, best-stays, each-map}
+use Rattle.tree.specs.GridLaws.{better-stays, best-le, best-append, best-stays, each-map}
 use Rattle.tree.specs.GridLaws as tree
 use Rattle.tree.specs.Amounts.{sumOf}
 use Rattle.search.specs.Point.{heldOf}
@@ -27,13 +27,9 @@ pub better-yes : (a b : Answer) → b .delay < a .delay → better a b ≡ b
 unfolding better
 better-yes a b h = rw (lt-ltb (b .delay) (a .delay) h)
 
-pub better-no : (a b : Answer) → a .delay ≤ b .delay → better a b ≡ a
-unfolding better
-better-no a b h = rw (le-ltb (b .delay) (a .delay) h)
-
 better-le : (a b : Answer) (t : Bool) → ltb (b .delay) (a .delay) ≡ t → (better a b .delay ≤ a .delay) × (better a b .delay ≤ b .delay)
 better-le a b true e = let h = ltb-true (b .delay) (a .delay) e in rw (better-yes a b h) (omega arith, omega arith)
-better-le a b false e = let h = ltb-false (b .delay) (a .delay) e in rw (better-no a b h) (omega arith, omega arith)
+better-le a b false e = let h = ltb-false (b .delay) (a .delay) e in rw (better-stays a b h) (omega arith, omega arith)
 
 best-least : (at : List ℕ → Answer) (a : Answer) (l : List (List ℕ)) → Each (λ p. bestOf at a l .delay ≤ at p .delay) l
 best-least at a [] = tt

@@ -179,19 +179,9 @@ fn scan(
     while i < steps.len() {
         let e = steps[i];
         extra[k] = e;
-        if least + e < b {
-            b = scan(
-                line,
-                size,
-                flows,
-                count,
-                steps,
-                extra,
-                k + 1,
-                least + e,
-                b,
-                waits,
-            );
+        let sum = least + e;
+        if sum < b {
+            b = scan(line, size, flows, count, steps, extra, k + 1, sum, b, waits);
         }
         i = i + 1;
     }

@@ -83,7 +83,7 @@ pub record Filling (first xs buf : List ℕ) (at i : ℕ) : Type 0 where
 pub begin-filling : (first xs : List ℕ) → Filling first xs first 0 0
 begin-filling first xs = record { few = omega arith; place = omega arith; same = refl; long = refl }
 
-sets-append : (l : List ℕ) (i : ℕ) (a b : List ℕ) → sets l i (a ++ b) ≡ sets (sets l i a) (i + length a) b
+pub sets-append : (l : List ℕ) (i : ℕ) (a b : List ℕ) → sets l i (a ++ b) ≡ sets (sets l i a) (i + length a) b
 sets-append l i [] b = rw (add-zero i)
 sets-append l i (x ∷ a) b = let e : suc i + length a ≡ i + suc (length a) = omega arith in sets-append (set l i x) (suc i) a b ∙ rw e
 

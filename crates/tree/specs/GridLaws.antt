@@ -12,6 +12,7 @@ use lib.Dec.{ltb}
 use lib.ListN.{length, getD, replicate, length-append}
 use borrow.Author.Tests.{ltb-true, ltb-false, le-ltb, ne-eqb}
 use Rattle.row.specs.OfSheet.{listed}
+use Rattle.row.specs.OfSheetLaws.{length-listed}
 use Rattle.tree.specs.Grid.{stepsOf, flat, pointsFrom, pointsOf, Answer, better, bestOf, foundOf}
 use Rattle.tree.specs.Searched.{Each, First, Low}
 use Rattle.row.specs.TestLaws.{decide}
@@ -36,7 +37,7 @@ pub best-append : (at : List ℕ → Answer) (a : Answer) (l m : List (List ℕ)
 best-append at a [] m = refl
 best-append at a (p ∷ l) m = best-append at (better a (at p)) l m
 
-better-stays : (a b : Answer) → a .delay ≤ b .delay → better a b ≡ a
+pub better-stays : (a b : Answer) → a .delay ≤ b .delay → better a b ≡ a
 unfolding better
 better-stays a b h = rw (le-ltb (b .delay) (a .delay) h)
 
@@ -117,11 +118,6 @@ listed-front : {B : Type 0} (n : ℕ) (f : ℕ → B) → listed (suc n) f ≡ f
 unfolding listed
 listed-front zero f = refl
 listed-front (suc n) f = ap (λ (l : List _). l ++ (f (suc n) ∷ [])) (listed-front n f)
-
-pub length-listed : {B : Type 0} (n : ℕ) (f : ℕ → B) → length (listed n f) ≡ n
-unfolding listed
-length-listed zero f = refl
-length-listed (suc n) f = omega (arith, length-append (listed n f) (f n ∷ []), length-listed n f)
 
 each-listed : {B : Type 0} (P : B → Type 0) (n : ℕ) (f : ℕ → B) → ((i : ℕ) → i < n → P (f i)) → Each P (listed n f)
 unfolding listed

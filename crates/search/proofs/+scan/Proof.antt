@@ -154,13 +154,13 @@ scan-slice-write-extra t c =
     let r = s .pre .1 .0 in
     omega (arith, c .before .before .loop .inv .1, r .reached, r .few)
 
-scan-add-if2 : (t : ℕ) → scan-lts.Need-add-if2 (
+scan-add-sum : (t : ℕ) → scan-lts.Need-add-sum (
   try-point-reads.Asked,
   try-point-reads.Learnt,
   scan-below t,
   scan.Post,
 ) (scan-at t) scan.Post scan-Inv-loop scan-μ-loop
-scan-add-if2 t c =
+scan-add-sum t c =
     let s = c .before .before .before .before .before .before .before .before in
     let r = s .pre .1 .0 in
     omega (arith, r .small, r .low (c .before .before .loop .i) (c .before .loop-test .taken))
@@ -172,14 +172,6 @@ scan-add-scan : (t : ℕ) → scan-lts.Need-add-scan (
   scan.Post,
 ) (scan-at t) scan.Post scan-Inv-loop scan-μ-loop
 scan-add-scan t c = omega arith
-
-scan-add-scan-2 : (t : ℕ) → scan-lts.Need-add-scan-2 (
-  try-point-reads.Asked,
-  try-point-reads.Learnt,
-  scan-below t,
-  scan.Post,
-) (scan-at t) scan.Post scan-Inv-loop scan-μ-loop
-scan-add-scan-2 t c = omega arith
 
 scan-scan-requires : (t : ℕ) → scan-lts.Need-scan-requires (
   try-point-reads.Asked,
@@ -328,9 +320,8 @@ pub +scan-spec : {M : Type 1} → statement M
     (scan-shared-slice-read-e t)
     (scan-mul-extra t)
     (scan-slice-write-extra t)
-    (scan-add-if2 t)
+    (scan-add-sum t)
     (scan-add-scan t)
-    (scan-add-scan-2 t)
     (scan-scan-requires t)
     (scan-add-i t)
     (scan-loop-less t)

@@ -10,7 +10,8 @@ use Rattle.tree.specs.Grid.{Answer}
 use Rattle.line.specs.AnswerLaws.{Below, delay-below}
 use Rattle.line.specs.Line.{serversIn, flowsIn}
 use Rattle.search.specs.Point.{answerBy, heldAt}
-use Rattle.search.specs.GridLaws.{better-yes, better-no}
+use Rattle.tree.specs.GridLaws.{better-stays}
+use Rattle.search.specs.GridLaws.{better-yes}
 use Rattle.search.proofs.Searching.{held-is}
 use Rattle.search.proofs.try_point.Statement.{statement}
 use Rattle.search.proofs.try_point.Tie as tie
@@ -62,7 +63,7 @@ returns-2 : tie.Need-returns-2
 returns-2 c =
     let v = c .before .before in
     let a = v .before .before .before .before .before .args in
-    sym (better-no (answerBy (a .bound) (a .waits .now)) (point v) (below v .not (c .if1 .left)))
+    sym (better-stays (answerBy (a .bound) (a .waits .now)) (point v) (below v .not (c .if1 .left)))
 
 pub try-point-spec : {M : Type 1} → statement M
 try-point-spec =
