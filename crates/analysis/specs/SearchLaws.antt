@@ -28,9 +28,9 @@ use Rattle.tree.specs.SizeLaws.{start-small, plan-fine}
 use Rattle.tree.specs.PruneLaws.{delay-ge-sum}
 use Rattle.line.specs.Answer.{noFlow, answerOf, Placed, Workable}
 use Rattle.line.specs.OrderLaws.{reads-placed, reads-ordered}
-use Rattle.search.specs.Point.{serversOf, flowsOf}
+use Rattle.quick.specs.Point.{serversOf, flowsOf, Shaped}
 use Rattle.tree.specs.Searched.{Each}
-use Rattle.search.specs.Searchable.{Shaped, latencies, Good, Searchable}
+use Rattle.search.specs.Searchable.{latencies, Good, Searchable}
 
 each-at : {A : Type 0} (P : A → Type 0) (l : List A) (d : A) → Each P l → (k : ℕ) → k < length l → P (getD l k d)
 each-at P [] d e k h = absurd (omega arith)

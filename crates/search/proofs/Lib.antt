@@ -1,5 +1,3 @@
-pub mod Walks
-pub mod Nodes
 pub mod Stepping
 pub mod Scanning
 pub mod Searching

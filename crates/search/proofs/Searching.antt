@@ -25,9 +25,10 @@ use Rattle.line.specs.Line.{serverAt, flowAt, serversIn, flowsIn}
 use Rattle.line.specs.Cells.{sumFrom}
 use Rattle.line.proofs.Nodes.{plan-length}
 use Rattle.line.proofs.Tiles as tiles
-use Rattle.search.specs.declared.Point.{Point}
+use Rattle.quick.specs.declared.Point.{Point}
+use Rattle.quick.specs.Point.{serversOf, flowsOf, answerAt, extrasOf, pointOf}
 use Rattle.search.specs.declared.Found.{Found}
-use Rattle.search.specs.Point.{serversOf, flowsOf, answerAt, extrasOf, heldOf, pointOf, heldAt, answerBy, searched}
+use Rattle.search.specs.Point.{heldOf, heldAt, answerBy, searched}
 use Rattle.search.specs.Searchable.{latencies, Good, Searchable, Ready, foundIn}
 use Rattle.search.specs.Steps.{once, stepAt}
 use Rattle.search.specs.GridLaws.{best-steps, best-held, each-at, points-each, sum-append}

@@ -13,21 +13,13 @@ use Rattle.tree.specs.Searched.{Each}
 use Rattle.tree.specs.Amounts.{sumOf}
 use Rattle.tree.specs.PruneLaws.{latenciesOf}
 use Rattle.tree.specs.Grid.{Answer, pointsFrom}
-use Rattle.line.specs.Answer.{noFlow, answerOf, Placed, Workable}
+use Rattle.line.specs.Answer.{answerOf, Workable}
 use Rattle.search.specs.declared.Found.{Found}
-use Rattle.search.specs.Point.{serversOf, flowsOf, answerAt}
+use Rattle.quick.specs.Point.{serversOf, flowsOf, answerAt, Shaped}
 
 -- what a search gives, as the code holds it: behind the groups' waits stand zeros
 unfoldable pub foundIn : ℕ → Answer → Found
 foundIn start best = record { start = start; bound = best .delay; waits = padded 32 0 (best .waits) }
-
--- the row's own numbers
-pub record Shaped (row : Row) : Type 0 where
-  pub long : 0 < row .size
-  pub short : row .size ≤ 16
-  pub some : 0 < row .count
-  pub few : row .count ≤ 32
-  pub paths : (k : ℕ) → k < row .count → Placed (row .size) (getD (row .groups) k noFlow)
 
 -- T summed over the servers
 unfoldable pub latencies : List Server → ℕ

@@ -16,10 +16,10 @@ use Rattle.curves.specs.Held.{Holds}
 use Rattle.row.specs.declared.Server.{Server}
 use Rattle.row.specs.declared.Flow.{Flow}
 use Rattle.tree.specs.Plan.{Node, Top, alone, over, topOf, nodeOf, plan}
-use Rattle.search.specs.declared.Point.{Point}
+use Rattle.quick.specs.declared.Point.{Point}
 use Rattle.line.specs.Answer.{noFlow, waitsOf, answerOf}
 use Rattle.line.proofs.Nodes.{planFrom, curveAt, nodeAt, plan-length, plan-at}
-use Rattle.search.specs.Point.{pointOf}
+use Rattle.quick.specs.Point.{pointOf}
 
 abbrev pub noCurve : Curve
 noCurve = record { offset = 0; count = 0; stages = [] }

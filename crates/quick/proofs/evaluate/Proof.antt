@@ -17,11 +17,11 @@ use Rattle.tree.specs.Plan.{Top, alone, serverCurve, nodeOf}
 use Rattle.tree.specs.Fine.{Fine}
 use Rattle.line.specs.Answer.{noFlow, Placed}
 use Rattle.line.proofs.Nodes.{curveAt, nodeAt, extra-at, fine-at}
-use Rattle.search.specs.Point.{serversOf, flowsOf, extrasOf}
-use Rattle.search.proofs.Walks.{Walking, walk-begins, walk-ends, walk-room, walk-room-over, walk-turn, walk-turn-over}
-use Rattle.search.proofs.Nodes.{topAt, Upto, Group, mark-none, mark-some, upto-none, upto-next, upto-root}
-use Rattle.search.proofs.evaluate.Statement.{statement}
-use Rattle.search.proofs.evaluate.Tie as tie
+use Rattle.quick.specs.Point.{serversOf, flowsOf, extrasOf}
+use Rattle.quick.proofs.Walks.{Walking, walk-begins, walk-ends, walk-room, walk-room-over, walk-turn, walk-turn-over}
+use Rattle.quick.proofs.Nodes.{topAt, Upto, Group, mark-none, mark-some, upto-none, upto-next, upto-root}
+use Rattle.quick.proofs.evaluate.Statement.{statement}
+use Rattle.quick.proofs.evaluate.Tie as tie
 
 -- the extras with the watched flow's, 0, before them
 abbrev allOf : Row → List ℕ → List ℕ
