@@ -16,10 +16,11 @@ use Rattle.row.specs.declared.Server.{Server}
 use Rattle.row.specs.declared.Flow.{Flow}
 use Rattle.row.specs.OfSheetLaws.{length-listed, listed-at}
 use Rattle.tree.specs.Plan.{Top, alone, over, topOf, serverCurve, nodeOf, plan}
+use Rattle.tree.specs.Planned.{waitsOf}
 use Rattle.tree.specs.Searched.{Each}
 use Rattle.tree.specs.GridLaws.{each-map}
 use Rattle.line.specs.declared.Line.{Line}
-use Rattle.line.specs.Answer.{noFlow, waitsOf, answerOf, delayUpTo, delayBelow, Placed, After, Ordered}
+use Rattle.line.specs.Answer.{noFlow, answerOf, delayUpTo, delayBelow, Placed, After, Ordered}
 use Rattle.line.specs.Line.{serverAt, serversIn}
 use Rattle.line.specs.Cells.{curveFrom, Left, Pooled}
 use Rattle.line.proofs.Nodes.{planFrom, curveAt, nodeAt, plan-at, plan-length}
@@ -59,7 +60,7 @@ pub settled-by : {ss : List Server} {gs : List Flow} {xs ws₀ : List ℕ} {k m 
     → Settled ss gs xs ws₀ m bs rs sh ws
 settled-by {ss} {gs} {xs} {ws₀} {k} {m} {bs} {rs} {sh} {ws} e s = subst (λ (i : ℕ). Settled ss gs xs ws₀ i bs rs sh ws) e s
 
-zeros-at : (n i : ℕ) → getD {A = ℕ} (replicate n 0) i 0 ≡ 0
+pub zeros-at : (n i : ℕ) → getD {A = ℕ} (replicate n 0) i 0 ≡ 0
 zeros-at zero i = refl
 zeros-at (suc n) zero = refl
 zeros-at (suc n) (suc i) = zeros-at n i

@@ -1,6 +1,6 @@
 -- What stands at one point of the grid, over the nodes that a program works out, and what is asked of a row and a point before that.
 -- Assumes nothing.
-use mathlib.Core.List.{List, [], _∷_, map}
+use mathlib.Core.List.{List, [], _∷_}
 use mathlib.Core.Logic.{_⊎_}
 use Prim.Native.Nat.{ℕ, _≤_, _<_}
 use mathlib.Core.Bool.{cond}
@@ -10,15 +10,13 @@ use Rattle.curves.specs.Curve.{Shape, delay}
 use Rattle.row.specs.declared.Server.{Server}
 use Rattle.row.specs.declared.Flow.{Flow}
 use Rattle.tree.specs.Plan.{Node, plan}
+use Rattle.tree.specs.Planned.{waitsOf}
 use Rattle.tree.specs.Fine.{AllFine}
 use Rattle.tree.specs.Searched.{Each}
 use Rattle.tree.specs.Grid.{Answer}
 
 abbrev pub noFlow : Flow
 noFlow = record { first = 0; last = 0; burst = 0; rate = 0 }
-
-abbrev pub waitsOf : List Node → List ℕ
-waitsOf ns = map (λ (n : Node). n .wait) ns
 
 -- the watched flow's delay over the root's curve, and the waits of the nodes behind the root
 abbrev pub answerIn : List Flow → List Node → Answer

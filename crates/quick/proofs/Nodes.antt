@@ -17,7 +17,9 @@ use Rattle.row.specs.declared.Server.{Server}
 use Rattle.row.specs.declared.Flow.{Flow}
 use Rattle.tree.specs.Plan.{Node, Top, alone, over, topOf, nodeOf, plan}
 use Rattle.quick.specs.declared.Point.{Point}
-use Rattle.line.specs.Answer.{noFlow, waitsOf, answerOf}
+use Rattle.tree.specs.Planned.{waitsOf}
+use Rattle.line.specs.Answer.{noFlow, answerOf}
+use Rattle.line.proofs.Settling.{zeros-at}
 use Rattle.line.proofs.Nodes.{planFrom, curveAt, nodeAt, plan-length, plan-at}
 use Rattle.quick.specs.Point.{pointOf}
 
@@ -79,13 +81,8 @@ module _ (ss : List Server) (gs : List Flow) (xs : List ℕ) where
         full = h;
         wide = refl;
         waits = rw (d, replicate-append-replicate, ← s);
-        marks = λ j. rw d (zeros j 17);
+        marks = λ j. rw d (zeros-at 17 j);
       }
-    where
-      zeros : (j n : ℕ) → getD {A = ℕ} (replicate n 0) j 0 ≡ 0
-      zeros j zero = refl
-      zeros zero (suc n) = refl
-      zeros (suc j) (suc n) = zeros j n
 
   -- node k is worked out: g is its group, with first server j
   module _ (i : ℕ) (ls : List Curve) (ws ts : List ℕ) (u : Upto ss gs xs (suc (suc i)) ls ws ts) (c : Curve) (w : ℕ)
