@@ -1,158 +1,191 @@
-/* The search as fast as we know how to write it in C. A point's delay is at least the latencies and its extras together, so that a point
- * where these reach the best delay so far is passed over, with every later one that has a larger digit in its last place that is not 0.
- * Steps that are equal are taken once. Rates and plain latencies are worked out once for the row; a node keeps one burst for each server of
- * its path, in place; and a node is worked out again only where an extra inside it has moved. */
+/* The search as fast as we know how to write it in C. Groups are chosen from the last to the first, as a point is worked out: a group's lag
+ * is known when its extra is chosen, and a step costs the servers of one path. What is sought is the least key, delay * 2^16 + the point's
+ * number in document 01's order: no order of visit changes it, so that the first point with the least delay comes out. A branch ends where
+ * the slots so far reach the best key, and where a server can no longer give, at its rate now and in the slots left below the best, what
+ * the groups to come and the watched flow take from it. A server is one number, the bytes it has given: a step adds to it, what was
+ * added is taken back behind the last step, and nothing is copied. Equal steps are taken once; those too long for any group, not at all. */
 #include "search.h"
 
 #include <string.h>
 
-struct tree {
-    unsigned groups, servers;
-    unsigned next[MOST_GROUPS + 1];                    /* the group behind k and all groups inside it */
-    uint32_t inside[MOST_GROUPS];                      /* k and the groups inside it, as bits */
-    uint64_t latency[MOST_GROUPS + 1];                 /* of the servers of node k that no group inside it crosses */
-    uint64_t rate[MOST_GROUPS + 1][MOST_SERVERS];      /* of the stages of node k, before group k is taken out, by server */
-    uint64_t left[MOST_GROUPS][MOST_SERVERS];          /* the bursts that group k leaves, by server */
-    uint64_t wait[MOST_GROUPS];
+/* A group, or the watched flow, over the servers of its path. */
+struct node {
+    unsigned first, last;
+    uint64_t rate[MOST_SERVERS]; /* before it is taken out */
+    uint64_t want[MOST_SERVERS]; /* what is given by then: its own burst and those of the groups taken out before it */
 };
 
-/* What does not change from point to point. The watched flow stands last, as node `groups`. */
-static void plant(struct tree *t, const struct row *row)
+struct search {
+    unsigned groups, servers, grid, steps;
+    struct node node[MOST_GROUPS + 1];            /* the watched flow stands last, as node `groups` */
+    uint64_t rate[MOST_GROUPS][MOST_SERVERS];     /* of every server, with the groups from k on taken out */
+    uint64_t step[MOST_STEPS], digit[MOST_STEPS]; /* the steps to take, and the first digit of each */
+    uint64_t given[MOST_SERVERS];
+    uint64_t gap[MOST_GROUPS], kept[MOST_GROUPS]; /* each group's lag and extra: of the point at hand, and of the best one */
+    uint64_t best;
+};
+
+/* The slots until a server has given what is wanted, and no fewer than `most`: divides only where these are too few. */
+static inline uint64_t longer(uint64_t most, uint64_t given, uint64_t rate, uint64_t want)
 {
-    uint64_t rate[MOST_SERVERS], latency[MOST_SERVERS];
-    t->groups = row->groups;
-    t->servers = row->servers;
+    return given + most * rate < want ? (want - given + rate - 1) / rate : most;
+}
+
+/* The slots until every server of the path has given what is wanted. */
+static inline uint64_t lag_of(const struct node *x, const uint64_t *given)
+{
+    uint64_t lag = 0;
+    for (unsigned j = x->first; j <= x->last; j++)
+        lag = longer(lag, given[j], x->rate[j], x->want[j]);
+    return lag;
+}
+
+/* The servers of the path give for so many slots; for fewer than none they take back, as the numbers wrap round. */
+static inline void give(const struct node *x, uint64_t *given, uint64_t slots)
+{
+    for (unsigned j = x->first; j <= x->last; j++)
+        given[j] += x->rate[j] * slots;
+}
+
+/* The watched flow's delay, with so many slots before its own lag. */
+static inline uint64_t delay_of(uint64_t slots, uint64_t lag)
+{
+    return slots + (lag == 0 ? 0 : lag - 1);
+}
+
+/* Whether in so many slots, with the groups from k on taken out, every server can give all that is wanted of it. */
+static inline int can_give(const struct search *s, unsigned k, uint64_t slots)
+{
+    const uint64_t *want = s->node[s->groups].want;
+    for (unsigned j = 0; j < s->servers; j++)
+        if (s->given[j] + s->rate[k][j] * slots < want[j])
+            return 0;
+    return 1;
+}
+
+/* The nodes, and on the way the point with every extra 0, as the best so far; `slots` are the latencies. */
+static void plant(struct search *s, const struct row *row, uint64_t slots)
+{
+    uint64_t rate[MOST_SERVERS], want[MOST_SERVERS], given[MOST_SERVERS], lag;
+    s->groups = row->groups;
+    s->servers = row->servers;
+    s->grid = row->grid;
     for (unsigned j = 0; j < row->servers; j++) {
         rate[j] = row->server[j].rate;
-        latency[j] = row->server[j].latency;
+        want[j] = given[j] = 0;
     }
     for (unsigned k = row->groups; k-- > 0;) {
         const struct group *g = &row->group[k];
-        unsigned d = k + 1;
-        while (d < row->groups && row->group[d].first <= g->last)
-            d = t->next[d];
-        t->next[k] = d;
-        t->inside[k] = (uint32_t)((UINT64_C(1) << d) - (UINT64_C(1) << k));
-        t->latency[k] = 0;
+        struct node *x = &s->node[k];
+        x->first = g->first;
+        x->last = g->last;
+        lag = 0;
         for (unsigned j = g->first; j <= g->last; j++) {
-            t->latency[k] += latency[j];
-            latency[j] = 0;
-            t->rate[k][j] = rate[j];
+            x->rate[j] = rate[j];
+            x->want[j] = want[j] += g->burst;
+            lag = longer(lag, given[j], rate[j], want[j]);
             rate[j] -= g->rate;
         }
+        give(x, given, lag);
+        s->kept[k] = lag;
+        slots += lag;
     }
-    t->latency[row->groups] = 0;
+    struct node *root = &s->node[row->groups];
+    root->first = 0;
+    root->last = row->servers - 1;
+    lag = 0;
     for (unsigned j = 0; j < row->servers; j++) {
-        t->latency[row->groups] += latency[j];
-        t->rate[row->groups][j] = rate[j];
+        root->rate[j] = rate[j];
+        root->want[j] = want[j] + row->watched.burst + row->watched.rate;
+        lag = longer(lag, given[j], rate[j], root->want[j]);
+    }
+    s->best = delay_of(slots, lag) << 16;
+}
+
+/* The steps that differ; none that reaches start behind `least` slots, which every point has. */
+static void list_steps(struct search *s, uint64_t start, uint64_t least)
+{
+    s->steps = 1;
+    s->step[0] = s->digit[0] = 0;
+    for (unsigned i = 1; i < s->grid; i++) {
+        uint64_t e = i * start / (s->grid - 1);
+        if (least + e >= start)
+            break;
+        if (e != s->step[s->steps - 1]) {
+            s->step[s->steps] = e;
+            s->digit[s->steps++] = i;
+        }
     }
 }
 
-/* The bursts of a path before its own group is taken out, and the offset: d and the groups behind it stand inside it, up to `end`. */
-static inline uint64_t gather(const struct tree *t, const struct row *row, unsigned k, unsigned d, unsigned end, const struct group *g,
-                              uint64_t *burst)
+static void list_rates(struct search *s, const struct row *row)
 {
-    uint64_t offset = t->latency[k];
-    unsigned j = g->first;
-    for (; d < end; d = t->next[d]) {
-        offset += t->wait[d];
-        while (j < row->group[d].first)
-            burst[j++] = 0;
-        for (; j <= row->group[d].last; j++)
-            burst[j] = t->left[d][j];
+    uint64_t rate[MOST_SERVERS];
+    for (unsigned j = 0; j < row->servers; j++)
+        rate[j] = row->server[j].rate;
+    for (unsigned k = row->groups; k-- > 0;) {
+        for (unsigned j = row->group[k].first; j <= row->group[k].last; j++)
+            rate[j] -= row->group[k].rate;
+        memcpy(s->rate[k], rate, row->servers * sizeof *rate);
     }
-    while (j <= g->last)
-        burst[j++] = 0;
-    return offset;
 }
 
-/* The slots until every stage has `bytes`: divides only where the slots so far are too few. */
-static inline uint64_t catch_up(const uint64_t *burst, const uint64_t *rate, const struct group *g, uint64_t bytes)
+/* The best of the points that have the groups from k on as they stand, with the slots and the number so far and the next digit's weight. */
+static void choose(struct search *s, unsigned k, uint64_t slots, uint64_t number, uint64_t weight)
 {
-    uint64_t most = 0;
-    for (unsigned j = g->first; j <= g->last; j++)
-        if (burst[j] + most * rate[j] < bytes)
-            most = (bytes - burst[j] + rate[j] - 1) / rate[j];
-    return most;
+    if (k == 0) {
+        uint64_t key = delay_of(slots, lag_of(&s->node[s->groups], s->given)) << 16 | number;
+        if (key < s->best) {
+            s->best = key;
+            memcpy(s->kept, s->gap, s->groups * sizeof *s->gap);
+        }
+        return;
+    }
+    const struct node *x = &s->node[--k];
+    uint64_t lag = lag_of(x, s->given), done = 0;
+    for (unsigned i = 0; i < s->steps; i++) {
+        uint64_t gap = lag + s->step[i], now = slots + gap, here = number + s->digit[i] * weight;
+        if ((now << 16 | here) >= s->best)
+            break;
+        give(x, s->given, gap - done);
+        s->gap[k] = done = gap;
+        /* from here a point is better up to this delay, and a delay of d takes d + 1 slots */
+        uint64_t delay = (s->best - 1 - here) >> 16;
+        if (can_give(s, k, delay + 1 - now))
+            choose(s, k, now, here, weight * s->grid);
+    }
+    give(x, s->given, -done);
 }
 
-static inline void work_out(struct tree *t, const struct row *row, unsigned k, uint64_t extra)
+/* The points behind the first; the last group's lag is the same at all of them. */
+static void climb(struct search *s, const struct row *row, uint64_t slots)
 {
-    const struct group *g = &row->group[k];
-    uint64_t *burst = t->left[k];
-    const uint64_t *rate = t->rate[k];
-    uint64_t offset = gather(t, row, k, k + 1, t->next[k], g, burst);
-    uint64_t gap = catch_up(burst, rate, g, g->burst) + extra;
-    for (unsigned j = g->first; j <= g->last; j++)
-        burst[j] += rate[j] * gap - g->burst;
-    t->wait[k] = offset + gap;
-}
-
-/* The watched flow's delay, or its offset where that is no better than `enough`. */
-static inline uint64_t delay_of(const struct tree *t, const struct row *row, uint64_t enough)
-{
-    const struct group *w = &row->watched;
-    uint64_t burst[MOST_SERVERS];
-    uint64_t offset = gather(t, row, t->groups, 0, t->groups, w, burst);
-    if (offset >= enough)
-        return offset;
-    uint64_t slots = catch_up(burst, t->rate[t->groups], w, w->burst + w->rate);
-    return offset + (slots == 0 ? 0 : slots - 1);
+    list_steps(s, s->best >> 16, slots + s->kept[row->groups - 1]);
+    if (s->steps == 1)
+        return;
+    list_rates(s, row);
+    memset(s->given, 0, sizeof s->given);
+    choose(s, row->groups, slots, 0, 1);
 }
 
 void best_search(const struct row *row, struct answer *a)
 {
-    struct tree t;
-    plant(&t, row);
-    for (unsigned k = row->groups; k-- > 0;)
-        work_out(&t, row, k, 0);
-    a->groups = row->groups;
-    a->start = a->bound = delay_of(&t, row, UINT64_MAX);
-    memcpy(a->wait, t.wait, row->groups * sizeof *t.wait);
-    if (row->mode != 0)
-        return;
-
-    uint64_t step[MOST_STEPS];
-    unsigned steps = 1;
-    step[0] = 0;
-    for (unsigned i = 1; i < row->grid; i++) {
-        uint64_t e = i * a->start / (row->grid - 1);
-        if (e != step[steps - 1])
-            step[steps++] = e;
-    }
-
-    unsigned digit[MOST_GROUPS] = {0};
-    uint32_t moved = 0;
-    uint64_t least = 0;
+    struct search s;
+    uint64_t latency[MOST_SERVERS + 1]; /* of the servers before j together */
+    latency[0] = 0;
     for (unsigned j = 0; j < row->servers; j++)
-        least += row->server[j].latency;
-    for (;;) {
-        /* the next point that can be better: a digit up, those behind it back to 0 */
-        unsigned k = row->groups;
-        for (;;) {
-            if (k-- == 0)
-                return;
-            unsigned i = digit[k];
-            if (i + 1 < steps && least - step[i] + step[i + 1] < a->bound) {
-                least += step[i + 1] - step[i];
-                digit[k] = i + 1;
-                moved |= UINT32_C(1) << k;
-                break;
-            }
-            if (i != 0) {
-                least -= step[i];
-                digit[k] = 0;
-                moved |= UINT32_C(1) << k;
-            }
-        }
-        for (k = row->groups; k-- > 0;)
-            if (t.inside[k] & moved)
-                work_out(&t, row, k, step[digit[k]]);
-        moved = 0;
-        uint64_t delay = delay_of(&t, row, a->bound);
-        if (delay < a->bound) {
-            a->bound = delay;
-            memcpy(a->wait, t.wait, row->groups * sizeof *t.wait);
-        }
+        latency[j + 1] = latency[j] + row->server[j].latency;
+    plant(&s, row, latency[row->servers]);
+    a->groups = row->groups;
+    a->start = s.best >> 16;
+    if (row->mode == 0 && row->groups > 0)
+        climb(&s, row, latency[row->servers]);
+    a->bound = s.best >> 16;
+    for (unsigned k = 0; k < row->groups; k++) {
+        const struct group *g = &row->group[k];
+        uint64_t wait = latency[g->last + 1] - latency[g->first] + s.kept[k];
+        for (unsigned d = k + 1; d < row->groups && row->group[d].first <= g->last; d++)
+            wait += s.kept[d];
+        a->wait[k] = wait;
     }
 }

@@ -43,7 +43,7 @@ void plain_search(const struct row *row, struct answer *a);
 /* The part of it from one point to before another, over what `a` holds of the points before: for counting a part of a long search. */
 void plain_part(const struct row *row, uint64_t from, uint64_t to, struct answer *a);
 
-/* The search of a row: only points that can be better, and at each only the nodes that moved. */
+/* The search of a row: from the last group to the first, and nothing behind a choice that cannot be better. */
 void best_search(const struct row *row, struct answer *a);
 
 #endif
