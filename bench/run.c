@@ -26,7 +26,7 @@
 #define CALLGRIND_DUMP_STATS
 #endif
 
-enum { ROUNDS = 9, EVERY = 16, PIECES = 16, SMALL = 4096, STACK = 1 << 20, PAINT = 0xa5, RECORD = 5 * (4 + MOST_GROUPS) };
+enum { ROUNDS = 9, EVERY = 16, PIECES = 16, SMALL = 4096, STACK = 1 << 20, PAINT = 0xa5 };
 
 /* How the groups stand: one behind the other; each inside the one before, from server 1; or each, from the whole row on, split in two. */
 enum shape { FLAT, CHAIN, BALANCED };
@@ -145,7 +145,7 @@ static void make(const struct kind *x, struct sheet *sheet)
         stop(x->name, "is no sheet");
 }
 
-static uint8_t record[RECORD];
+static uint8_t record[GULLBISCUIT_MOST_ANSWER];
 
 /* The library's entry on a sheet: every measurement of the proved analysis is of this call. */
 static uint64_t entry(const struct sheet *sheet)
@@ -153,54 +153,14 @@ static uint64_t entry(const struct sheet *sheet)
     return gullbiscuit_analyse(sheet->bytes, sheet->len, record, sizeof record);
 }
 
-/* The number at a place of the answer record. */
-static uint64_t field(size_t len, size_t *at)
-{
-    uint64_t x = 0;
-    for (unsigned shift = 0; *at < len; shift += 7) {
-        uint8_t byte = record[(*at)++];
-        x |= (uint64_t)(byte & 127) << shift;
-        if (byte < 128)
-            return x;
-    }
-    stop("answer record", "ends early");
-}
-
-/* What the library's entry answers on row i. */
-static void answer_of(unsigned i, struct answer *a)
-{
-    uint64_t gives = entry(&sheets[i]);
-    if (gullbiscuit_refusal(gives) != GULLBISCUIT_DONE)
-        stop(kinds[i].name, "the library refuses it");
-    size_t len = gullbiscuit_detail(gives), at = 0;
-    a->bound = field(len, &at);
-    a->start = field(len, &at);
-    if (field(len, &at) != rows[i].grid)
-        stop(kinds[i].name, "another grid in the answer record");
-    a->groups = (unsigned)field(len, &at);
-    for (unsigned k = 0; k < a->groups && k < MOST_GROUPS; k++)
-        a->wait[k] = field(len, &at);
-    if (at != len)
-        stop(kinds[i].name, "the answer record goes on");
-}
-
-static int is_same(const struct answer *a, const struct answer *b)
-{
-    return a->bound == b->bound && a->start == b->start && a->groups == b->groups && memcmp(a->wait, b->wait, a->groups * sizeof *a->wait) == 0;
-}
-
 static void compare(void)
 {
     unsigned lower = 0;
     for (unsigned i = 0; i < ROWS; i++) {
-        struct answer proved, plain, best;
-        answer_of(i, &proved);
-        plain_search(&rows[i], &plain);
-        best_search(&rows[i], &best);
-        if (!is_same(&proved, &plain))
-            stop(kinds[i].name, "the proved analysis and plain C differ");
-        if (!is_same(&best, &plain))
-            stop(kinds[i].name, "best C and plain C differ");
+        struct answer plain;
+        const char *wrong = compare_answers(sheets[i].bytes, sheets[i].len, &rows[i], &plain);
+        if (wrong != NULL)
+            stop(kinds[i].name, wrong);
         lower += plain.bound < plain.start;
     }
     printf("%u rows, on %u of them a bound below start: proved, plain and best have the same bound, start and waits on each\n", ROWS, lower);

@@ -1,5 +1,5 @@
 /* The search of a row in C, written from document 01 for measurements only: no part of the product. The row is read from a sheet; `plain`
- * works out the whole tree at every point; `best` is as fast as we know how. All give the same answer. */
+ * works out the whole tree at every point; `best` is as fast as we know how. Both give the library's answer. */
 #ifndef SEARCH_H
 #define SEARCH_H
 
@@ -45,5 +45,9 @@ void plain_part(const struct row *row, uint64_t from, uint64_t to, struct answer
 
 /* The search of a row: from the last group to the first, and nothing behind a choice that cannot be better. */
 void best_search(const struct row *row, struct answer *a);
+
+/* The answers of the library, plain and best on a sheet and on the row that was read from it. Gives NULL where all have the same bound,
+ * start and waits, which `plain` then has; else says what is wrong. */
+const char *compare_answers(const uint8_t *sheet, size_t len, const struct row *row, struct answer *plain);
 
 #endif
