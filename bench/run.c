@@ -62,16 +62,26 @@ static const struct kind kinds[] = {
     {"g 9, 5 groups, flat", 9, 5, 5, FLAT, 0, 60000, 60000, 0, 17},
     {"g 9, 5 groups, chain, bound below start", 9, 5, 5, CHAIN, 0, 60000, 60000, 0, 22},
     {"g 9, 5 groups, balanced, bound below start", 9, 5, 5, BALANCED, 0, 60000, 60000, 0, 57},
-    /* of all rows with g 9 and five groups, those with start 15 let the fewest points be passed over */
+    /* of all rows with g 9 and five groups, those with start 15 let the fewest points be passed over by their extras alone */
     {"g 9, 5 groups, flat, start 15", 9, 5, 5, FLAT, 0, 21000, 21000, 0, 17},
     {"g 9, 5 groups, chain, start 15", 9, 5, 5, CHAIN, 0, 22000, 22000, 0, 8},
     {"g 9, 5 groups, balanced, start 15", 9, 5, 5, BALANCED, 0, 22000, 22000, 0, 2},
-    /* no group has to wait: nothing but its extras tells that a point is no better */
+    /* no group has to wait: the slots before the watched flow's are extras alone */
     {"g 9, 5 groups, flat, no cross bursts", 9, 5, 5, FLAT, 0, 0, 65535, 0, 52},
     {"g 9, 5 groups, balanced, no cross bursts", 9, 5, 5, BALANCED, 0, 0, 65535, 0, 52},
     /* eight of the nine steps are equal */
     {"g 9, 5 groups, flat, start 1", 9, 5, 5, FLAT, 0, 0, 9001, 0, 5},
     {"g 9, 5 groups, chain, start 1", 9, 5, 5, CHAIN, 0, 0, 9001, 0, 5},
+    /* the most groups that g 3 allows: of many seeds and sizes of bursts, flat and chain among those that leave the most steps to a search
+     * from the last group to the first, and balanced with a bound below start; where no group has to wait, a chain leaves the most */
+    {"g 3, 10 groups, flat", 3, 10, 10, FLAT, 0, 50000, 30000, 0, 778},
+    {"g 3, 10 groups, chain", 3, 10, 10, CHAIN, 0, 100, 15000, 0, 653},
+    {"g 3, 10 groups, balanced, bound below start", 3, 10, 10, BALANCED, 0, 1000, 50000, 0, 1353},
+    {"g 3, 10 groups, chain, no cross bursts", 3, 10, 10, CHAIN, 0, 0, 60000, 0, 1422},
+    /* the most groups that g 6 allows, with the most steps where groups have bursts, and on the chain with a bound below start; without
+     * bursts a chain can leave more than twice as many (watched 65535, seed 1871) */
+    {"g 6, 6 groups, flat", 6, 6, 6, FLAT, 0, 10000, 30000, 0, 1154},
+    {"g 6, 6 groups, chain", 6, 6, 6, CHAIN, 0, 2000, 50000, 0, 45},
     {"quick, 31 groups of 48 flows, balanced", 9, 31, 48, BALANCED, 0, 60000, 60000, 1, 19},
 };
 
