@@ -2,8 +2,9 @@
  * is known when its extra is chosen, and a step costs the servers of one path. What is sought is the least key, delay * 2^16 + the point's
  * number in document 01's order: no order of visit changes it, so that the first point with the least delay comes out. A branch ends where
  * the slots so far reach the best key, and where a server can no longer give, at its rate now and in the slots left below the best, what
- * the groups to come and the watched flow take from it. A server is one number, the bytes it has given: a step adds to it, what was
- * added is taken back behind the last step, and nothing is copied. Equal steps are taken once; those too long for any group, not at all. */
+ * the groups to come and the watched flow take from it; a server beside the group's path ends the longer steps too. A server is one number,
+ * the bytes it has given: a step adds to it, what was added is taken back behind the last step, and nothing is copied. Equal steps are
+ * taken once; those too long for any group, not at all. */
 #include "search.h"
 
 #include <string.h>
@@ -53,11 +54,11 @@ static inline uint64_t delay_of(uint64_t slots, uint64_t lag)
     return slots + (lag == 0 ? 0 : lag - 1);
 }
 
-/* Whether in so many slots, with the groups from k on taken out, every server can give all that is wanted of it. */
-static inline int can_give(const struct search *s, unsigned k, uint64_t slots)
+/* Whether in so many slots, with the groups from k on taken out, every server from `from` up to before `to` can give all that is wanted. */
+static inline int can_give(const struct search *s, unsigned k, unsigned from, unsigned to, uint64_t slots)
 {
     const uint64_t *want = s->node[s->groups].want;
-    for (unsigned j = 0; j < s->servers; j++)
+    for (unsigned j = from; j < to; j++)
         if (s->given[j] + s->rate[k][j] * slots < want[j])
             return 0;
     return 1;
@@ -147,11 +148,13 @@ static void choose(struct search *s, unsigned k, uint64_t slots, uint64_t number
         uint64_t gap = lag + s->step[i], now = slots + gap, here = number + s->digit[i] * weight;
         if ((now << 16 | here) >= s->best)
             break;
+        /* from here a point is better up to this delay, and a delay of d takes d + 1 slots */
+        uint64_t delay = (s->best - 1 - here) >> 16, left = delay + 1 - now;
+        if (!can_give(s, k, 0, x->first, left) || !can_give(s, k, x->last + 1, s->servers, left))
+            break;
         give(x, s->given, gap - done);
         s->gap[k] = done = gap;
-        /* from here a point is better up to this delay, and a delay of d takes d + 1 slots */
-        uint64_t delay = (s->best - 1 - here) >> 16;
-        if (can_give(s, k, delay + 1 - now))
+        if (can_give(s, k, x->first, x->last + 1, left))
             choose(s, k, now, here, weight * s->grid);
     }
     give(x, s->given, -done);

@@ -78,10 +78,12 @@ static const struct kind kinds[] = {
     {"g 3, 10 groups, chain", 3, 10, 10, CHAIN, 0, 100, 15000, 0, 653},
     {"g 3, 10 groups, balanced, bound below start", 3, 10, 10, BALANCED, 0, 1000, 50000, 0, 1353},
     {"g 3, 10 groups, chain, no cross bursts", 3, 10, 10, CHAIN, 0, 0, 60000, 0, 1422},
-    /* the most groups that g 6 allows, with the most steps where groups have bursts, and on the chain with a bound below start; without
-     * bursts a chain can leave more than twice as many (watched 65535, seed 1871) */
+    /* the most groups that g 6 allows, with the most steps where groups have bursts, and on the chain with a bound below start */
     {"g 6, 6 groups, flat", 6, 6, 6, FLAT, 0, 10000, 30000, 0, 1154},
     {"g 6, 6 groups, chain", 6, 6, 6, CHAIN, 0, 2000, 50000, 0, 45},
+    /* of three thousand seeds and 256 sizes of bursts, the rows that leave the most steps to a search from the last group to the first */
+    {"g 6, 6 groups, chain, no cross bursts", 6, 6, 6, CHAIN, 0, 0, 65535, 0, 1871},
+    {"g 9, 5 groups, chain, most steps", 9, 5, 5, CHAIN, 0, 50000, 50000, 0, 10},
     {"quick, 31 groups of 48 flows, balanced", 9, 31, 48, BALANCED, 0, 60000, 60000, 1, 19},
 };
 
