@@ -8,7 +8,7 @@ use Rattle.row.specs.declared.Flow.{Flow}
 use Rattle.row.specs.declared.Row.{Row}
 use Rattle.row.specs.OfSheet.{padded, rowOf, checkOf}
 use Rattle.tree.specs.Grid as grid
-use Rattle.line.specs.Answer.{noFlow}
+use Rattle.tree.specs.Planned.{noFlow}
 use Rattle.analysis.specs.declared.Judged.{Judged}
 use Rattle.analysis.specs.declared.Judged.the-variants.{Refused, Crossing, Crowded, Points, TooLarge, Bounded}
 use Rattle.analysis.specs.declared.Analysed.{Analysed}

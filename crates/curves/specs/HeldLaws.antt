@@ -1,15 +1,15 @@
 -- Laws of the records that hold curves: what is held can be read back, and what the methods make is held.
 -- Assumes nothing.
 use mathlib.Core.Path.{_≡_, refl, sym, subst}
-use mathlib.Core.List.{List, _++_, map}
+use mathlib.Core.List.{List}
 use Prim.Native.Nat.{ℕ, _+_, _-_, _≤_, _<_, _^_}
 use native.Mathlib.Nat.{mul-le-mul}
 use native.Mathlib.Omega.{arith}
-use lib.ListN.{length, take, drop, length-map}
-use lib.Seq.{paste, drop-drop, length-paste-head, length-take-le, take-at, drop-at}
+use lib.ListN.{length, drop}
+use lib.Seq.{paste, drop-drop, length-paste-head, take-at, drop-at}
 use Rattle.curves.specs.declared.Stage.{Stage}
 use Rattle.curves.specs.declared.Curve.{Curve}
-use Rattle.curves.specs.Curve.{Shape, line, joined, after, remainder, leastWait, delay, All, Rates}
+use Rattle.curves.specs.Curve.{Shape, line, joined, remainder, leastWait, delay, All, Rates}
 use Rattle.curves.specs.Held.{shapeOf, spare, held, Holds, Live, Leaves, InRange, Leaving}
 use Rattle.curves.specs.StageLaws.{all-weaken, all-both}
 use Rattle.curves.specs.CurveLaws.{wait-after-offset, wait-enough}
@@ -34,13 +34,6 @@ pub held-joined : (a b : Curve) → a .count ≤ length (a .stages) → b .count
     (held (joined (shapeOf a) (shapeOf b)) (drop (b .count) (spare a)))
 unfolding held joined
 held-joined a b h k = rw (length-paste-head (a .stages) (a .count) (b .stages) (b .count) h k, drop-drop)
-
--- what a remainder makes
-pub held-remainder : (a : Curve) (σ ρ θ : ℕ) → a .count ≤ length (a .stages)
-    → _≡_ {A = Curve} (record { offset = θ; count = a .count; stages = map (after σ ρ (θ - a .offset)) (take (a .count) (a .stages)) ++ drop (a .count) (a .stages) })
-    (held (remainder (shapeOf a) σ ρ θ) (spare a))
-unfolding held remainder
-held-remainder a σ ρ θ h = rw (length-map, length-take-le (a .count) (a .stages) h)
 
 -- a stage in range serves at least one byte a slot
 pub live-rates : (l : List Stage) → All Live l → Rates 1 l

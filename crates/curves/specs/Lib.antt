@@ -1,6 +1,7 @@
 pub mod Slots
 pub mod Curve
 pub mod Held
+pub mod Part
 pub mod SlotsLaws
 pub mod StageLaws
 pub mod CurveLaws
@@ -8,5 +9,6 @@ pub mod JoinLaws
 pub mod RemainderLaws
 pub mod DelayLaws
 pub mod HeldLaws
+pub mod PartLaws
 pub mod Unique
 pub mod Figures

@@ -3,12 +3,10 @@
 use mathlib.Core.Path.{_≡_, refl}
 use mathlib.Core.List.{List, [], _∷_, _++_, map}
 use mathlib.Core.Logic.{_⊎_, inl, inr}
-use Prim.Native.Nat.{ℕ, zero, suc, _+_, _-_, _*_, _≤_, _<_, max}
+use Prim.Native.Nat.{ℕ, zero, suc, _+_, _-_, _*_, _≤_, _<_}
 use native.Mathlib.Nat.{mul-le-mul-left, mul-le-mul-right, mul-sub, le-antisymm, div-lt-iff-lt-mul, lt-div-mul-add}
-use native.Mathlib.Numerals.{add-one}
 use native.Mathlib.Omega.{arith}
 use lib.ListN.{length, take, getD}
-use lib.Seq.{take-suc}
 use Rattle.curves.specs.declared.Stage.{Stage}
 use Rattle.curves.specs.Curve.{line, ceil, greatest, catchUp, lateness, All, Rates, Below}
 use Rattle.curves.specs.SlotsLaws.{le-or-lt}
@@ -63,16 +61,6 @@ pub le-greatest : (f : Stage → ℕ) (w : ℕ) (l : List Stage) → greatest f 
 unfolding greatest
 le-greatest f w [] h = tt
 le-greatest f w (s ∷ l) h = (omega arith, le-greatest f w l (omega arith))
-
-pub greatest-snoc : (f : Stage → ℕ) (l : List Stage) (s : Stage) → greatest f (l ++ (s ∷ [])) ≡ max (greatest f l) (f s)
-unfolding greatest
-greatest-snoc f [] s = omega arith
-greatest-snoc f (x ∷ l) s = omega (arith, greatest-snoc f l s)
-
--- one stage more
-pub greatest-take : (f : Stage → ℕ) (l : List Stage) (i : ℕ) (d : Stage) → i < length l
-    → greatest f (take (i + 1) l) ≡ max (greatest f (take i l)) (f (getD l i d))
-greatest-take f l i d p = rw (add-one, take-suc l i d, greatest-snoc)
 
 -- if one function is one less than another at each stage, so are the greatest values
 pub greatest-pred : (f g : Stage → ℕ) (l : List Stage) → All (λ s. f s ≡ g s - 1) l → greatest f l ≡ greatest g l - 1

@@ -7,6 +7,7 @@ use Rattle.curves.specs.declared.Stage.{Stage}
 use Rattle.curves.specs.declared.Curve.{Curve}
 use Rattle.curves.specs.Curve.{neutral, server, joined, after, remainder, catchUp, leastWait, delay}
 use Rattle.curves.specs.Held.{shapeOf, spare, held, blank}
+use Rattle.curves.specs.Part.{lagIn, leftIn}
 
 pub catch-up-unique : (s : Stage) (σ most a b : ℕ) → a ≡ max most (catchUp σ s) → b ≡ max most (catchUp σ s) → a ≡ b
 catch-up-unique s σ most a b h k = h ∙ sym k
@@ -33,3 +34,10 @@ least-wait-unique c σ a b h k = h ∙ sym k
 
 pub delay-unique : (c : Curve) (σ ρ a b : ℕ) → a ≡ delay (shapeOf c) σ ρ → b ≡ delay (shapeOf c) σ ρ → a ≡ b
 delay-unique c σ ρ a b h k = h ∙ sym k
+
+pub lag-unique : (c : Curve) (from to σ a b : ℕ) → a ≡ lagIn (shapeOf c) from to σ → b ≡ lagIn (shapeOf c) from to σ → a ≡ b
+lag-unique c from to σ a b h k = h ∙ sym k
+
+pub left-unique : (c : Curve) (from to σ ρ x : ℕ) (a b : Curve) → a ≡ held (leftIn (shapeOf c) from to σ ρ x) (spare c)
+    → b ≡ held (leftIn (shapeOf c) from to σ ρ x) (spare c) → a ≡ b
+left-unique c from to σ ρ x a b h k = h ∙ sym k

@@ -3,8 +3,10 @@
 ghost use mathlib.Core.Path.{_≡_};
 ghost use Prim.Native.Nat.{_+_, _≤_, _<_, _^_, max};
 ghost use lib.ListN.{drop, replicate};
-ghost use Rattle.curves.specs.Curve.{neutral, server, joined, after, remainder, catchUp, leastWait, delay};
+ghost use lib.Seq.{slice};
+ghost use Rattle.curves.specs.Curve.{All, neutral, server, joined, after, remainder, catchUp, leastWait, delay};
 ghost use Rattle.curves.specs.Held.{shapeOf, spare, held, Holds, blank, Live, Leaves, InRange, Leaving};
+ghost use Rattle.curves.specs.Part.{lagIn, leftIn};
 
 // A line that begins at `burst` bytes and rises by `rate` a slot.
 pub struct Stage {
@@ -93,20 +95,43 @@ impl Curve {
         r
     }
 
+    // The slots until the stages from `from` up to before `to` have `sigma` bytes.
+    pub fn lag(self, from: usize, to: usize, sigma: u64) -> u64
+        requires { ⌜ (to ≤ self .count) × (self .count ≤ 16) × All Live (slice from to (shapeOf self .stages)) × (sigma < 2 ^ 40) ⌝ }
+        ensures { λ r. ⌜ r ≡ lagIn (shapeOf self) from to sigma ⌝ }
+    {
+        let mut most: u64 = 0;
+        let mut i = from;
+        while i < to {
+            let s = self.stages[i];
+            most = s.catch_up(sigma, most);
+            i = i + 1;
+        }
+        most
+    }
+
+    // What a group (sigma, rho) leaves of the stages from `from` up to before `to`, `gap` slots after the offset; the others stay.
+    pub fn left(self, from: usize, to: usize, sigma: u64, rho: u64, gap: u64) -> Curve
+        requires { ⌜ (from ≤ to) × (to ≤ self .count) × (self .count ≤ 16) × All (Leaves sigma rho gap) (slice from to (shapeOf self .stages)) × (self .offset + gap < 2 ^ 64) ⌝ }
+        ensures { λ r. ⌜ (r ≡ held (leftIn (shapeOf self) from to sigma rho gap) (spare self)) × Holds r (leftIn (shapeOf self) from to sigma rho gap) ⌝ }
+    {
+        let mut r = self;
+        let mut i = from;
+        while i < to {
+            let s = r.stages[i];
+            r.stages[i] = s.after(sigma, rho, gap);
+            i = i + 1;
+        }
+        r.offset = self.offset + gap;
+        r
+    }
+
     // The least wait for a group with burst `sigma`.
     pub fn least_wait(self, sigma: u64) -> u64
         requires { ⌜ InRange self × (sigma < 2 ^ 40) ⌝ }
         ensures { λ r. ⌜ r ≡ leastWait (shapeOf self) sigma ⌝ }
     {
-        let n = self.count;
-        let mut most: u64 = 0;
-        let mut i: usize = 0;
-        while i < n {
-            let s = self.stages[i];
-            most = s.catch_up(sigma, most);
-            i = i + 1;
-        }
-        self.offset + most
+        self.offset + self.lag(0, self.count, sigma)
     }
 
     // What a group (sigma, rho) leaves of the curve after a wait.
@@ -114,17 +139,7 @@ impl Curve {
         requires { ⌜ Leaving self sigma rho wait ⌝ }
         ensures { λ r. ⌜ (r ≡ held (remainder (shapeOf self) sigma rho wait) (spare self)) × Holds r (remainder (shapeOf self) sigma rho wait) ⌝ }
     {
-        let mut r = self;
-        let n = self.count;
-        let gap = wait - self.offset;
-        let mut i: usize = 0;
-        while i < n {
-            let s = r.stages[i];
-            r.stages[i] = s.after(sigma, rho, gap);
-            i = i + 1;
-        }
-        r.offset = wait;
-        r
+        self.left(0, self.count, sigma, rho, wait - self.offset)
     }
 
     // The delay of a bucket (sigma, rho): one slot less than the least wait for what it may send in its first slot.

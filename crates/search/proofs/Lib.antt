@@ -1,4 +1,4 @@
-pub mod Stepping
-pub mod Scanning
-pub mod Searching
 pub mod Planting
+pub mod Gathering
+pub mod Wanting
+pub mod Searching

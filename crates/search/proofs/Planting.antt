@@ -1,4 +1,4 @@
--- A row's servers and flows planted one by one in lists of numbers: each that is planted stays, and all of them in order are the row's.
+-- A row's flows planted one by one in a list of numbers: each that is planted stays, and all of them in order are the row's.
 -- Assumes nothing.
 use mathlib.Core.Path.{_≡_, refl, sym, ap, _∙_}
 use mathlib.Core.Logic.{_⊎_, inl, inr}
@@ -8,10 +8,9 @@ use native.Mathlib.Omega.{arith}
 use lib.ListN.{length, getD, set, take, length-set}
 use lib.Seq.{take-suc, getD-set-same, getD-set-other}
 use Rattle.curves.specs.SlotsLaws.{le-or-lt}
-use Rattle.row.specs.declared.Server.{Server}
 use Rattle.row.specs.declared.Flow.{Flow}
 use Rattle.row.specs.OfSheet.{listed}
-use Rattle.line.specs.Line.{serverAt, flowAt}
+use Rattle.climb.specs.Flows.{flowAt}
 
 -- values that are a list's first n, in order
 pub listed-take : {B : Type 0} (n : ℕ) (f : ℕ → B) (l : List B) (d : B)
@@ -22,21 +21,6 @@ listed-take (suc n) f l d h e =
     let r : listed n f ≡ take n l = listed-take n f l d (omega arith) (λ m k. e m (omega arith)) in
     let v : f n ≡ getD l n d = e n (omega arith) in
     ap (λ (x : List _). x ++ (f n ∷ [])) r ∙ ap (λ (x : _). take n l ++ (x ∷ [])) v ∙ sym (take-suc l n d h)
-
--- a server is planted at place i
-pub plant-server : (rates latencies : List ℕ) (i : ℕ) (ss : List Server) (d v : Server)
-    → i < length rates → i < length latencies → v ≡ getD ss i d
-    → ((m : ℕ) → m < i → serverAt (record { rates = rates; latencies = latencies }) m ≡ getD ss m d)
-    → (m : ℕ) → m < i + 1
-    → serverAt (record { rates = set rates i (v .rate); latencies = set latencies i (v .latency) }) m ≡ getD ss m d
-plant-server rates latencies i ss d v hr hl e inv m h = go (le-or-lt i m)
-  where
-    go : (i ≤ m) ⊎ (m < i) → serverAt (record { rates = set rates i (v .rate); latencies = set latencies i (v .latency) }) m ≡ getD ss m d
-    go (inl k) =
-        let q : m ≡ i = omega arith in
-        rw (q, getD-set-same rates i (v .rate) 0 hr, getD-set-same latencies i (v .latency) 0 hl) e
-    go (inr k) =
-        rw (getD-set-other rates i m (v .rate) 0 (λ q. omega arith), getD-set-other latencies i m (v .latency) 0 (λ q. omega arith)) (inv m k)
 
 -- the four numbers of a flow, stored from place 4 * k on
 abbrev pub planted : List ℕ → ℕ → Flow → List ℕ

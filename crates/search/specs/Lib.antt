@@ -1,5 +1,3 @@
 pub mod Point
-pub mod Steps
 pub mod Searchable
-pub mod GridLaws
 pub mod Unique

@@ -27,6 +27,21 @@ pub each-map : {A : Type 0} (P Q : A → Type 0) (l : List A) → ((x : A) → P
 each-map P Q [] f h = tt
 each-map P Q (x ∷ l) f h = (f x (h .0), each-map P Q l f (h .1))
 
+pub each-at : {A : Type 0} (P : A → Type 0) (l : List A) (d : A) → Each P l → (k : ℕ) → k < length l → P (getD l k d)
+each-at P [] d e k h = absurd (omega arith)
+each-at P (x ∷ l) d e zero h = e .0
+each-at P (x ∷ l) d e (suc k) h = each-at P l d (e .1) k (omega arith)
+
+-- numbers up to b, with zeros behind them
+pub each-below : (b : ℕ) (es : List ℕ) → Each (λ e. e ≤ b) es → (k : ℕ) → getD es k 0 ≤ b
+each-below b [] h k = omega arith
+each-below b (e ∷ es) h zero = h .0
+each-below b (e ∷ es) h (suc k) = each-below b es (h .1) k
+
+pub zeros-below : (b n : ℕ) → Each (λ e. e ≤ b) (replicate n 0)
+zeros-below b zero = tt
+zeros-below b (suc n) = (omega arith, zeros-below b n)
+
 pub each-in : {A : Type 0} (P : A → Type 0) (l : List A) (x : A) (m : List A) → Each P (l ++ (x ∷ m)) → P x
 each-in P [] x m h = h .0
 each-in P (y ∷ l) x m h = each-in P l x m (h .1)
@@ -119,7 +134,7 @@ unfolding listed
 listed-front zero f = refl
 listed-front (suc n) f = ap (λ (l : List _). l ++ (f (suc n) ∷ [])) (listed-front n f)
 
-each-listed : {B : Type 0} (P : B → Type 0) (n : ℕ) (f : ℕ → B) → ((i : ℕ) → i < n → P (f i)) → Each P (listed n f)
+pub each-listed : {B : Type 0} (P : B → Type 0) (n : ℕ) (f : ℕ → B) → ((i : ℕ) → i < n → P (f i)) → Each P (listed n f)
 unfolding listed
 each-listed P zero f h = tt
 each-listed P (suc n) f h = each-append P (listed n f) (f n ∷ []) (each-listed P n f (λ i l. h i (omega arith))) (h n (omega arith), tt)
@@ -160,11 +175,11 @@ zeros-front more fixed (suc n) =
       ap (λ (l : List (List ℕ)). l ++ others) (r .1) ∙ ap (λ (p : List ℕ). p ∷ (r .0 ++ others)) (append-assoc fixed (0 ∷ []) (replicate n 0)),
     )
 
-length-flat : {A B : Type 0} (h : A → List B) (m : ℕ) → ((e : A) → length (h e) ≡ m) → (l : List A) → length (flat h l) ≡ length l * m
+pub length-flat : {A B : Type 0} (h : A → List B) (m : ℕ) → ((e : A) → length (h e) ≡ m) → (l : List A) → length (flat h l) ≡ length l * m
 length-flat h m k [] = omega arith
 length-flat h m k (e ∷ l) = omega (arith, length-append (h e) (flat h l), k e, length-flat h m k l)
 
-points-from-count : (steps : List ℕ) (n : ℕ) (fixed : List ℕ) → length (pointsFrom steps fixed n) ≡ length steps ^ n
+pub points-from-count : (steps : List ℕ) (n : ℕ) (fixed : List ℕ) → length (pointsFrom steps fixed n) ≡ length steps ^ n
 points-from-count steps zero fixed = sym (pow-zero (length steps))
 points-from-count steps (suc n) fixed =
     let f = length-flat (λ (e : ℕ). pointsFrom steps (fixed ++ (e ∷ [])) n) (length steps ^ n) (λ e. points-from-count steps n (fixed ++ (e ∷ []))) steps in

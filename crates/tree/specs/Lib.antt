@@ -9,9 +9,12 @@ pub mod Amounts
 pub mod Fine
 pub mod Stands
 pub mod Searched
+pub mod Ordered
 pub mod Meaning
 pub mod PlanLaws
+pub mod NodeLaws
 pub mod NestedLaws
+pub mod OrderLaws
 pub mod StretchLaws
 pub mod SizeLaws
 pub mod PruneLaws

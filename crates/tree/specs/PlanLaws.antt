@@ -107,8 +107,8 @@ plan-is-tree row es =
     (ap (λ (c : Shape). nodeOf c (flow row 0) 0 ∷ nodesOf row (extraOf es) 0 (groups row)) (node-curve-same row (extraOf es) (flow row 0) (groups row) 0))
 
 -- and so they answer what the tree answers: the root's curve gives the delay, and the nodes behind it have the groups' waits
-pub plan-answers : (row : Tandem) (es : List ℕ) → answerOf (flow row 0) (plan (row .servers) (reads row) (0 ∷ es)) ≡ answerAt row es
-unfolding answerOf treeNodes answerAt bound nodeOf
+pub plan-answers : (row : Tandem) (es : List ℕ) → answerOf (row .servers) (reads row) es ≡ answerAt row es
+unfolding answerOf reads treeNodes answerAt bound nodeOf
 plan-answers row es =
     rw (plan-is-tree row es)
     (ap (λ (l : List ℕ). record { delay = bound row (extraOf es) (tree row); waits = l }) (waits-same row (extraOf es) (groups row) 0))

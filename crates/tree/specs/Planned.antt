@@ -2,11 +2,13 @@
 -- Assumes nothing.
 use Prim.Native.Nat.{ℕ, suc}
 use mathlib.Core.List.{List, [], _∷_, map}
+use lib.ListN.{getD}
 use Rattle.curves.specs.Curve.{delay}
+use Rattle.row.specs.declared.Server.{Server}
 use Rattle.row.specs.declared.Flow.{Flow}
 use Rattle.row.specs.Tandem.{Tandem, Path, flow}
 use Rattle.row.specs.Groups.{groups, grouped}
-use Rattle.tree.specs.Plan.{Node, nodeOf}
+use Rattle.tree.specs.Plan.{Node, nodeOf, plan}
 use Rattle.tree.specs.Grid.{Answer}
 use Rattle.tree.specs.Stretch.{curve}
 use Rattle.tree.specs.Tree.{inside, top, tree}
@@ -17,9 +19,16 @@ abbrev pub waitsOf : List Node → List ℕ
 waitsOf ns = map (λ (n : Node). n .wait) ns
 
 -- of nodes whose first is the root: the delay of the watched flow's bucket over the root's curve, and the waits of the others
-unfoldable pub answerOf : Flow → List Node → Answer
-answerOf w [] = record { delay = 0; waits = [] }
-answerOf w (n ∷ ns) = record { delay = delay (n .curve) (w .burst) (w .rate); waits = waitsOf ns }
+abbrev pub answerIn : Flow → List Node → Answer
+answerIn w [] = record { delay = 0; waits = [] }
+answerIn w (n ∷ ns) = record { delay = delay (n .curve) (w .burst) (w .rate); waits = waitsOf ns }
+
+abbrev pub noFlow : Flow
+noFlow = record { first = 0; last = 0; burst = 0; rate = 0 }
+
+-- the answer at the point es, of the watched flow and the groups behind it: the extras of the groups in order; the watched flow has none
+unfoldable pub answerOf : List Server → List Flow → List ℕ → Answer
+answerOf ss gs es = answerIn (getD gs 0 noFlow) (plan ss gs (0 ∷ es))
 
 -- the nodes of the groups gs, numbered from k on: each has the curve of its stretch in the tree
 unfoldable pub nodesOf : Tandem → (ℕ → ℕ) → ℕ → List Path → List Node

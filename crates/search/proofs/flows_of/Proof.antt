@@ -6,8 +6,8 @@ use Prim.Native.Nat.{ℕ, _≤_, _<_, _-_}
 use native.Mathlib.Omega.{arith}
 use lib.ListN.{length, getD, length-map}
 use borrow.Author.Needs.{needs}
-use Rattle.line.specs.Line.{flowAt}
-use Rattle.line.specs.Answer.{noFlow}
+use Rattle.tree.specs.Planned.{noFlow}
+use Rattle.climb.specs.Flows.{flowAt}
 use Rattle.search.proofs.Planting.{listed-take, plant-flow, length-planted}
 use Rattle.search.proofs.flows_of.Statement.{statement}
 use Rattle.search.proofs.flows_of.Tie as tie

@@ -1,5 +1,0 @@
-pub mod Cells
-pub mod Nodes
-pub mod Tiles
-pub mod Settling
-pub mod Turns
