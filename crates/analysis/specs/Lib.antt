@@ -2,4 +2,5 @@ pub mod Verdict
 pub mod Held
 pub mod SearchLaws
 pub mod VerdictLaws
+pub mod Figures
 pub mod Unique

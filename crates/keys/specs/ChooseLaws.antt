@@ -2,7 +2,7 @@
 -- Assumes nothing.
 use mathlib.Core.Path.{_≡_, refl, sym, ap, _∙_}
 use mathlib.Core.Bool.{Bool, true, false}
-use mathlib.Core.List.{List, [], _∷_, _++_, append-assoc, append-nil}
+use mathlib.Core.List.{List, [], _∷_, _++_, append-nil}
 use Prim.Native.Nat.{ℕ, zero, suc, _+_, _≤_, _<_}
 use native.Mathlib.Numerals.{add-one}
 use native.Mathlib.Omega.{arith}
@@ -10,16 +10,13 @@ use lib.Dec.{eqb}
 use lib.ListN.{length, getD, take, drop, take-append-drop, length-append}
 use lib.Seq.{take-suc}
 use Rattle.tree.specs.Grid.{flat}
+use Rattle.tree.specs.GridLaws.{flat-append}
 use Rattle.tree.specs.Searched.{Each}
 use Rattle.keys.specs.Keys.{leastOf}
 use Rattle.keys.specs.KeyLaws.{least-append, least-stays}
 use Rattle.keys.specs.Numbers.{keep, firstDigits}
 
 -- blocks of keys
-
-flat-append : (h : ℕ → List ℕ) (l m : List ℕ) → flat h (l ++ m) ≡ flat h l ++ flat h m
-flat-append h [] m = refl
-flat-append h (e ∷ l) m = rw (flat-append h l m) (sym (append-assoc (h e) (flat h l) (flat h m)))
 
 -- one block more
 pub least-more : (b : ℕ) (h : ℕ → List ℕ) (l : List ℕ) (i : ℕ) → i < length l

@@ -10,7 +10,7 @@ use Rattle.row.specs.declared.Server.{Server}
 use Rattle.row.specs.declared.Flow.{Flow}
 use Rattle.tree.specs.Amounts.{sumOf}
 use Rattle.tree.specs.Plan.{topOf, along, nodeCurve, nodeOf, plan}
-use Rattle.tree.specs.Figures.{srv, flow}
+use Rattle.tree.specs.Met.{srv, flowed}
 use Rattle.tree.specs.Grid.{pointsOf}
 use Rattle.tree.specs.Planned.{answerOf}
 use Rattle.keys.specs.Numbers.{pointAt, firstDigits}
@@ -27,11 +27,11 @@ found ss w gs g =
     let step : ℕ → ℕ = λ d. d * start / (g - 1) in
     leastOf (start * 65536) (keysUnder (climb 65536 w gs step g) (firstDigits step g) (length gs) (whole ss))
 
-pub figures : (found (srv 10 1 ∷ []) (flow 1 1 8 3) (flow 1 1 10 2 ∷ []) 4 ≡ 3 * 65536)
-    × (found (srv 10 0 ∷ []) (flow 1 1 12 4) (flow 1 1 10 6 ∷ []) 2 ≡ 4 * 65536)
-    × (found (srv 10 0 ∷ []) (flow 1 1 12 4) (flow 1 1 10 6 ∷ []) 3 ≡ 3 * 65536 + 1)
-    × (found (srv 10 0 ∷ []) (flow 1 1 12 4) (flow 1 1 10 6 ∷ []) 4 ≡ 3 * 65536 + 1)
-    × (found (srv 10 1 ∷ srv 10 1 ∷ srv 10 1 ∷ []) (flow 1 3 6 2) (flow 1 1 4 2 ∷ flow 2 3 4 2 ∷ flow 3 3 4 2 ∷ []) 2 ≡ 6 * 65536)
+pub figures : (found (srv 10 1 ∷ []) (flowed 1 1 8 3) (flowed 1 1 10 2 ∷ []) 4 ≡ 3 * 65536)
+    × (found (srv 10 0 ∷ []) (flowed 1 1 12 4) (flowed 1 1 10 6 ∷ []) 2 ≡ 4 * 65536)
+    × (found (srv 10 0 ∷ []) (flowed 1 1 12 4) (flowed 1 1 10 6 ∷ []) 3 ≡ 3 * 65536 + 1)
+    × (found (srv 10 0 ∷ []) (flowed 1 1 12 4) (flowed 1 1 10 6 ∷ []) 4 ≡ 3 * 65536 + 1)
+    × (found (srv 10 1 ∷ srv 10 1 ∷ srv 10 1 ∷ []) (flowed 1 3 6 2) (flowed 1 1 4 2 ∷ flowed 2 3 4 2 ∷ flowed 3 3 4 2 ∷ []) 2 ≡ 6 * 65536)
 unfolding answerOf plan nodeOf nodeCurve along topOf server neutral joined ceil greatest catchUp leastWait remainder lateness delay sumOf rowCurve lagOf leftBy leftOf
 figures = (refl, refl, refl, refl, refl)
 
@@ -45,13 +45,13 @@ pub key-figure : leastOf 500 (keysFrom 100 (λ p. record { delay = getD p 0 0; w
 key-figure = refl
 
 -- a group waits for the servers under its path alone
-pub lag-figure : lagOf (rowCurve (srv 10 0 ∷ srv 2 0 ∷ [])) (flow 1 1 10 2) ≡ 1
+pub lag-figure : lagOf (rowCurve (srv 10 0 ∷ srv 2 0 ∷ [])) (flowed 1 1 10 2) ≡ 1
 unfolding lagOf rowCurve greatest catchUp ceil
 lag-figure = refl
 
 -- two groups with two digits: chosen from the last to the first, the points have the numbers 0, 2, 1 and 3
 pub numbers-figure : map (λ (x : ℕ). x % 65536)
-    (keysUnder (climb 65536 (flow 1 2 8 3) (flow 1 1 10 2 ∷ flow 2 2 10 2 ∷ []) (λ d. d) 2) (0 ∷ 1 ∷ []) 2 (whole (srv 10 0 ∷ srv 10 0 ∷ [])))
+    (keysUnder (climb 65536 (flowed 1 2 8 3) (flowed 1 1 10 2 ∷ flowed 2 2 10 2 ∷ []) (λ d. d) 2) (0 ∷ 1 ∷ []) 2 (whole (srv 10 0 ∷ srv 10 0 ∷ [])))
     ≡ 0 ∷ 2 ∷ 1 ∷ 3 ∷ []
 unfolding rowCurve lagOf leftBy greatest catchUp ceil lateness leastWait delay sumOf
 numbers-figure = refl

@@ -9,7 +9,7 @@ use lib.ListN.{getD}
 use Rattle.row.specs.Tandem.{Path}
 use Rattle.row.specs.declared.Server.{Server}
 use Rattle.row.specs.declared.Flow.{Flow}
-use Rattle.tree.specs.Figures.{srv, flow}
+use Rattle.tree.specs.Met.{srv, flowed}
 use Rattle.tree.specs.Planned.{noFlow}
 use Rattle.tree.specs.Searched.{Each}
 use Rattle.tree.specs.Ordered.{Placed, Ordered}
@@ -24,7 +24,7 @@ abbrev servers8 : List Server
 servers8 = srv 10 1 ∷ srv 10 1 ∷ srv 10 1 ∷ []
 
 abbrev groups8 : List Flow
-groups8 = flow 1 1 4 2 ∷ flow 2 3 4 2 ∷ flow 3 3 4 2 ∷ []
+groups8 = flowed 1 1 4 2 ∷ flowed 2 3 4 2 ∷ flowed 3 3 4 2 ∷ []
 
 ordered8 : Ordered groups8
 ordered8 = (
@@ -67,7 +67,7 @@ since8 =
 pub kept8 : (e f : ℕ) → curveAt servers8 groups8 (0 ∷ e ∷ f ∷ []) 0 ≡ curveAt servers8 groups8 (0 ∷ 0 ∷ 0 ∷ []) 0
 kept8 e f = curve-kept servers8 groups8 ordered8 placed8 0 (omega arith) (0 ∷ e ∷ f ∷ []) (0 ∷ 0 ∷ 0 ∷ []) same
   where
-    same : (j : ℕ) → 0 < j → j < 3 → Contains (pathOf (flow 1 1 4 2)) (pathOf (getD groups8 j noFlow)) → getD (0 ∷ e ∷ f ∷ []) j 0 ≡ getD (0 ∷ 0 ∷ 0 ∷ []) j 0
+    same : (j : ℕ) → 0 < j → j < 3 → Contains (pathOf (flowed 1 1 4 2)) (pathOf (getD groups8 j noFlow)) → getD (0 ∷ e ∷ f ∷ []) j 0 ≡ getD (0 ∷ 0 ∷ 0 ∷ []) j 0
     same zero h k c = absurd (omega arith)
     same (suc zero) h k c = absurd (omega (arith, c .last))
     same (suc (suc zero)) h k c = absurd (omega (arith, c .last))

@@ -4,15 +4,15 @@
 use mathlib.Core.Path.{_≡_, refl, sym, ap, _∙_, subst}
 use mathlib.Core.Bool.{true, false}
 use mathlib.Core.Logic.{_⊎_, inl, inr}
-use mathlib.Core.List.{List, [], _∷_, _++_, append-assoc, append-nil}
+use mathlib.Core.List.{List, [], _∷_, _++_, map, append-assoc}
 use Prim.Native.Nat.{ℕ, zero, suc, _+_, _-_, _*_, _/_, _^_, _≤_, _<_}
 use native.Mathlib.Omega.{arith}
-use native.Mathlib.Nat.{zero-mul, zero-div, mul-le-mul-right, mul-comm, div-lt-iff-lt-mul, pow-zero, pow-suc}
+use native.Mathlib.Nat.{zero-add, add-zero, zero-mul, zero-div, mul-le-mul-right, mul-comm, mul-div-cancel, div-lt-iff-lt-mul, pow-zero, pow-suc}
 use lib.Dec.{ltb}
-use lib.ListN.{length, getD, replicate, length-append}
+use lib.ListN.{length, getD, replicate, length-append, replicate-append-replicate}
 use borrow.Author.Tests.{ltb-true, ltb-false, le-ltb, ne-eqb}
 use Rattle.row.specs.OfSheet.{listed}
-use Rattle.row.specs.OfSheetLaws.{length-listed}
+use Rattle.row.specs.OfSheetLaws.{length-listed, listed-at}
 use Rattle.tree.specs.Grid.{stepsOf, flat, pointsFrom, pointsOf, Answer, better, bestOf, foundOf}
 use Rattle.tree.specs.Searched.{Each, First, Low}
 use Rattle.row.specs.TestLaws.{decide}
@@ -153,6 +153,14 @@ steps-low start g h = each-listed (λ e. e ≤ start) g (λ i. i * start / (g - 
         let e = div-lt-iff-lt-mul {k = g - 1} {x = i * start} {y = suc start} d .1 c in
         omega arith
 
+-- and the last is start
+pub steps-last : (start g : ℕ) → 2 ≤ g → getD (stepsOf start g) (g - 1) 0 ≡ start
+unfolding stepsOf
+steps-last start g h =
+    let l : g - 1 < g = omega arith in
+    let d : 0 < g - 1 = omega arith in
+    listed-at g (λ i. i * start / (g - 1)) (g - 1) 0 l ∙ ap (λ (x : ℕ). x / (g - 1)) (mul-comm (g - 1) start) ∙ mul-div-cancel start d
+
 -- and the first is 0
 steps-front : (start g : ℕ) → 1 ≤ g → (more : List ℕ) × (stepsOf start g ≡ 0 ∷ more)
 unfolding stepsOf
@@ -166,13 +174,18 @@ steps-front start (suc g) h =
     zero-step : 0 * start / (suc g - 1) ≡ 0
     zero-step = rw (zero-mul start, zero-div (suc g - 1))
 
-zeros-front : (more fixed : List ℕ) (n : ℕ) → (rest : List (List ℕ)) × (pointsFrom (0 ∷ more) fixed n ≡ (fixed ++ replicate n 0) ∷ rest)
-zeros-front more fixed zero = ([], ap (λ (p : List ℕ). p ∷ []) (sym (append-nil fixed)))
-zeros-front more fixed (suc n) =
-    let r = zeros-front more (fixed ++ (0 ∷ [])) n in
-    let others = flat (λ (e : ℕ). pointsFrom (0 ∷ more) (fixed ++ (e ∷ [])) n) more in (
+-- behind k extras 0 the first point has 0 for every group more
+zeros-front : (more : List ℕ) (k n : ℕ) → (rest : List (List ℕ)) × (pointsFrom (0 ∷ more) (replicate k 0) n ≡ replicate (k + n) 0 ∷ rest)
+zeros-front more k zero = ([], rw add-zero)
+zeros-front more k (suc n) =
+    let r = zeros-front more (k + 1) n in
+    let zeros : List ℕ → List (List ℕ) = λ l. pointsFrom (0 ∷ more) l n in
+    let others = flat (λ (e : ℕ). pointsFrom (0 ∷ more) (replicate k 0 ++ (e ∷ [])) n) more in
+    let same : k + 1 + n ≡ k + suc n = omega arith in (
       r .0 ++ others,
-      ap (λ (l : List (List ℕ)). l ++ others) (r .1) ∙ ap (λ (p : List ℕ). p ∷ (r .0 ++ others)) (append-assoc fixed (0 ∷ []) (replicate n 0)),
+      ap (λ (l : List ℕ). zeros l ++ others) (replicate-append-replicate k 1 0)
+      ∙ ap (λ (l : List (List ℕ)). l ++ others) (r .1)
+      ∙ ap (λ (m : ℕ). replicate m 0 ∷ (r .0 ++ others)) same,
     )
 
 pub length-flat : {A B : Type 0} (h : A → List B) (m : ℕ) → ((e : A) → length (h e) ≡ m) → (l : List A) → length (flat h l) ≡ length l * m
@@ -190,13 +203,42 @@ pub points-count : (start g n : ℕ) → length (pointsOf (stepsOf start g) n) �
 unfolding pointsOf stepsOf
 points-count start g n = points-from-count (stepsOf start g) n [] ∙ ap (λ (x : ℕ). x ^ n) (length-listed g (λ i. i * start / (g - 1)))
 
+pub flat-append : {A B : Type 0} (h : A → List B) (l m : List A) → flat h (l ++ m) ≡ flat h l ++ flat h m
+flat-append h [] m = refl
+flat-append h (x ∷ l) m = rw (flat-append h l m) (sym (append-assoc (h x) (flat h l) (flat h m)))
+
+-- each point of `points` with every step as one extra more
+abbrev moreBy : List ℕ → List (List ℕ) → List (List ℕ)
+moreBy steps points = flat (λ (p : List ℕ). map (λ (e : ℕ). p ++ (e ∷ [])) steps) points
+
+flat-more : (steps : List ℕ) (h k : ℕ → List (List ℕ)) → ((e : ℕ) → h e ≡ moreBy steps (k e)) → (l : List ℕ) → flat h l ≡ moreBy steps (flat k l)
+flat-more steps h k r [] = refl
+flat-more steps h k r (e ∷ l) =
+    ap (λ (x : List (List ℕ)). x ++ flat h l) (r e) ∙ ap (λ (x : List (List ℕ)). moreBy steps (k e) ++ x) (flat-more steps h k r l)
+    ∙ sym (flat-append (λ (p : List ℕ). map (λ (e : ℕ). p ++ (e ∷ [])) steps) (k e) (flat k l))
+
+flat-single : {A B : Type 0} (f : A → B) (l : List A) → flat (λ (e : A). f e ∷ []) l ≡ map f l ++ []
+flat-single f [] = refl
+flat-single f (x ∷ l) = rw (flat-single f l)
+
+from-last : (steps : List ℕ) (n : ℕ) (fixed : List ℕ) → pointsFrom steps fixed (suc n) ≡ moreBy steps (pointsFrom steps fixed n)
+from-last steps zero fixed = flat-single (λ (e : ℕ). fixed ++ (e ∷ [])) steps
+from-last steps (suc n) fixed =
+    flat-more steps (λ (e : ℕ). pointsFrom steps (fixed ++ (e ∷ [])) (suc n)) (λ (e : ℕ). pointsFrom steps (fixed ++ (e ∷ [])) n)
+    (λ e. from-last steps n (fixed ++ (e ∷ []))) steps
+
+-- "the last group in the order moving fastest": between two points of the groups before it, the last group goes through all its steps
+pub points-last : (steps : List ℕ) (n : ℕ) → pointsOf steps (suc n) ≡ flat (λ (p : List ℕ). map (λ (e : ℕ). p ++ (e ∷ [])) steps) (pointsOf steps n)
+unfolding pointsOf
+points-last steps n = from-last steps n []
+
 -- the first point has every e = 0
 pub points-front : (start g n : ℕ) → 1 ≤ g → (rest : List (List ℕ)) × (pointsOf (stepsOf start g) n ≡ replicate n 0 ∷ rest)
 unfolding pointsOf
 points-front start g n h =
     let s = steps-front start g h in
-    let r = zeros-front (s .0) [] n in
-    (r .0, ap (λ (l : List ℕ). pointsFrom l [] n) (s .1) ∙ r .1)
+    let r = zeros-front (s .0) 0 n in
+    (r .0, ap (λ (l : List ℕ). pointsFrom l [] n) (s .1) ∙ r .1 ∙ ap (λ (m : ℕ). replicate m 0 ∷ r .0) (zero-add n))
 
 -- each point has an extra for each group, none above start
 

@@ -24,5 +24,4 @@ pub mod LargeLaws
 pub mod GridLaws
 pub mod SearchLaws
 pub mod MeaningLaws
-pub mod Figures
 pub mod Met

@@ -11,7 +11,9 @@ use borrow.Author.Tests.{lt-ltb, le-leb}
 use Rattle.curves.specs.Slots.{Covers, Least}
 use Rattle.curves.specs.SlotsLaws.{le-or-lt}
 use Rattle.row.specs.Sums.{total, any}
-use Rattle.row.specs.Tandem.{server, flow, crosses, on, rates}
+use Rattle.row.specs.declared.Server.{Server}
+use Rattle.row.specs.declared.Flow.{Flow}
+use Rattle.row.specs.Tandem.{Tandem, server, flow, crosses, on, rates}
 use Rattle.row.specs.Groups.{used, from, from-on, groups, reads}
 use Rattle.row.specs.Checks.{overlaps, notNested}
 use Rattle.row.specs.Accepted.{Lies, Accepted, Limits}
@@ -25,7 +27,18 @@ use Rattle.row.specs.SumLaws.{none-of}
 use Rattle.tree.specs.SizeLaws.{plan-fine}
 use Rattle.tree.specs.PruneLaws.{latenciesOf, delay-ge-sum}
 use Rattle.tree.specs.MeaningLaws.{bound-is-least}
-use Rattle.tree.specs.Figures.{row8}
+
+-- rows written by hand: a server, and a flow
+
+abbrev pub srv : ℕ → ℕ → Server
+srv R T = record { rate = R; latency = T }
+
+abbrev pub flowed : ℕ → ℕ → ℕ → ℕ → Flow
+flowed i l σ ρ = record { first = i; last = l; burst = σ; rate = ρ }
+
+-- "P8 | three servers 10, 1; cross 4, 2 on (1,1), (2,3), (3,3); watched 6, 2"
+abbrev pub row8 : Tandem
+row8 = record { servers = srv 10 1 ∷ srv 10 1 ∷ srv 10 1 ∷ []; flows = flowed 1 3 6 2 ∷ flowed 1 1 4 2 ∷ flowed 2 3 4 2 ∷ flowed 3 3 4 2 ∷ [] }
 
 nested8 : (f h : ℕ) → f < 4 → h < 4 → flow row8 f .first < flow row8 h .first → flow row8 h .first ≤ flow row8 f .last → flow row8 h .last ≤ flow row8 f .last
 unfolding notNested overlaps any
