@@ -23,7 +23,7 @@ use Rattle.sheet.specs.Rule.{most, ruleAt, seenAfter}
 use Rattle.sheet.specs.Refusal.{detail}
 use Rattle.sheet.specs.Sheet.{Found, fail, these, also, onStep, stepOn, walk, nothing, sheetOf, entryAt, listOf, encodeAll, readGives, writeGives}
 use Rattle.sheet.specs.StepLaws.{Small, Gave, step-gave, step-stopped, past-late, small-after, Entry, entry-was}
-use Rattle.sheet.specs.WalkLaws.{Walked, gave, ended, walked, walk-none}
+use Rattle.sheet.specs.WalkLaws.{Walked, gave, ended, walked, walk-none, Stopped, behind, here, stopped}
 
 -- How far a number reaches in a source: five bytes at most in a byte string, one entry in a list.
 
@@ -38,36 +38,13 @@ entries-reach xs at x next e = let t : Entry xs at x next = entry-was xs at x ne
 
 -- A refusal's place.
 
-also-fail : (x : ℕ) (f : Found) (w : Why) (d : ℕ) → also x f ≡ fail w d → f ≡ fail w d
-also-fail x (fail w′ d′) w d e = e
-also-fail x (these zs) w d e = let q : _≡_ {A = ℕ} 0 1 = cc in absurd (omega arith)
-
--- A walk that refuses either passed a number and refuses behind it, or refuses here.
-pub data Stopped (source : ℕ → Got) (size k at i : ℕ) (e : Seen) (w : Why) (d : ℕ) : Type 0 where
-  behind : (x next : ℕ) → Gave (source at) (ruleAt i e) x next → walk source size k next (i + 1) (seenAfter e i x) ≡ fail w d
-      → Stopped source size k at i e w d
-  here : d ≡ at → Stopped source size k at i e w d
-
-stopped-by : (st : Step) (source : ℕ → Got) (size k at i : ℕ) (e : Seen) (w : Why) (d : ℕ) → stepOn (source at) size at (ruleAt i e) ≡ st
-    → onStep st (λ x next. also x (walk source size k next (i + 1) (seenAfter e i x))) ≡ fail w d → Stopped source size k at i e w d
-stopped-by (Value x next) source size k at i e w d s h =
-    behind x next (step-gave (source at) size at (ruleAt i e) x next s) (also-fail x (walk source size k next (i + 1) (seenAfter e i x)) w d h)
-stopped-by (Stop w′ d′) source size k at i e w d s h =
-    let q : d′ ≡ d = cc in
-    here (sym q ∙ step-stopped (source at) size at (ruleAt i e) w′ d′ s)
-stopped-by End source size k at i e w d s h = let q : _≡_ {A = ℕ} 0 1 = cc in absurd (omega arith)
-
-pub stopped : (source : ℕ → Got) (size k at i : ℕ) (e : Seen) (w : Why) (d : ℕ) → walk source size (suc k) at i e ≡ fail w d
-    → Stopped source size k at i e w d
-stopped source size k at i e w d h = stopped-by (stepOn (source at) size at (ruleAt i e)) source size k at i e w d refl h
-
 -- no number is passed behind the last field
 stops-late : (source : ℕ → Got) (size at i : ℕ) (e : Seen) (w : Why) (d : ℕ) → most ≤ i → Small e → Stopped source size 0 at i e w d → d ≡ at
 stops-late source size at i e w d l m (behind x next v h) =
     let q : _≡_ {A = Bool} true false = rw (past-late i e l m) at (v .more) in
     let z : _≡_ {A = ℕ} 0 1 = cc in
     absurd (omega arith)
-stops-late source size at i e w d l m (here p) = p
+stops-late source size at i e w d l m (here p) = step-stopped (source at) size at (ruleAt i e) w d p
 
 place-by : (n : ℕ) (source : ℕ → Got) (size k at i : ℕ) (e : Seen) (w : Why) (d : ℕ) → Reaches n source → Small e
     → Stopped source size (suc k) at i e w d
@@ -75,7 +52,7 @@ place-by : (n : ℕ) (source : ℕ → Got) (size k at i : ℕ) (e : Seen) (w : 
 place-by n source size k at i e w d r m (behind x next v h) go =
     let l : d ≤ next + n * k = go next (seenAfter e i x) (small-after e i x m (v .fine)) h in
     omega (arith, l, r at x next (v .read), mul-suc n k)
-place-by n source size k at i e w d r m (here p) go = omega arith
+place-by n source size k at i e w d r m (here p) go = omega (arith, step-stopped (source at) size at (ruleAt i e) w d p)
 
 -- where k more numbers may be passed, the refusal's place is at most k numbers further
 pub place-near : (n : ℕ) (source : ℕ → Got) (size k at i : ℕ) (e : Seen) (w : Why) (d : ℕ) → Reaches n source → i + k ≡ most → Small e

@@ -1,12 +1,13 @@
--- Worked examples, computed from the definitions: sheets good and damaged, and the greatest sheet, which reaches both limits.
+-- Worked examples, computed from the definitions: sheets good and damaged; the greatest sheet, which reaches both limits; and the ends of every
+-- range.
 -- Assumes nothing.
 use Prim.Native.Nat.{ℕ, zero, suc}
 use mathlib.Core.Path.{_≡_, refl}
 use mathlib.Core.List.{List, [], _∷_, _++_, map}
-use lib.ListN.{length}
+use lib.ListN.{length, take, drop}
 use Rattle.numbers.specs.Seven.{encode, numberAt}
-use Rattle.sheet.specs.declared.Why.the-variants.{Ends, Padded, Large, Left, Outside, OffPath, Short}
 use Rattle.sheet.specs.Rule.{serverNumbers, ruleAt, seenAfter}
+use Rattle.sheet.specs.Refusal.{refusal}
 use Rattle.sheet.specs.Sheet.{Found, fail, these, stepOn, sheetOf, listOf, encodeAll}
 use Rattle.sheet.specs.Valid.{Valid}
 use Rattle.sheet.specs.ValidLaws.{listed-valid}
@@ -20,32 +21,39 @@ three-hundred = refl
 abbrev pub P7 : List ℕ
 P7 = 1 ∷ 1 ∷ 10 ∷ 0 ∷ 1 ∷ 1 ∷ 1 ∷ 10 ∷ 6 ∷ 12 ∷ 4 ∷ 0 ∷ 4 ∷ []
 
--- a sheet's bytes, and what they are read as
+-- document 01's number of a refusal and its detail; or 0 and behind it the numbers of the sheet
+abbrev pub answers : Found → List ℕ
+answers (fail w d) = refusal w ∷ d ∷ []
+answers (these xs) = 0 ∷ xs
+
+-- a sheet's bytes, and what the reader says of them
 pub record Example : Type 0 where
   pub bytes : List ℕ
-  pub read : Found
+  pub says : List ℕ
 
-abbrev example : List ℕ → Found → Example
-example s f = record { bytes = s; read = f }
+abbrev example : List ℕ → List ℕ → Example
+example s a = record { bytes = s; says = a }
 
 abbrev pub table : List Example
 table =
-    example P7 (these P7)
-    ∷ example [] (fail Ends 0)
-    ∷ example (1 ∷ 1 ∷ 10 ∷ []) (fail Ends 3)
-    ∷ example (2 ∷ []) (fail Outside 0)
-    ∷ example (129 ∷ 0 ∷ []) (fail Padded 0)
-    ∷ example (1 ∷ 17 ∷ []) (fail Outside 1)
-    ∷ example (1 ∷ 1 ∷ 10 ∷ 0 ∷ 1 ∷ 2 ∷ []) (fail OffPath 5)
-    ∷ example (P7 ++ (9 ∷ [])) (fail Left 13)
-    ∷ example (255 ∷ 255 ∷ 255 ∷ 255 ∷ 255 ∷ []) (fail Large 0)
-    ∷ example (255 ∷ 255 ∷ 255 ∷ 255 ∷ []) (fail Ends 0)
-    ∷ example (255 ∷ 255 ∷ 255 ∷ 255 ∷ 16 ∷ []) (fail Large 0)
-    ∷ example (255 ∷ 255 ∷ 255 ∷ 255 ∷ 15 ∷ []) (fail Outside 0)
-    ∷ example (1 ∷ 1 ∷ 10 ∷ 0 ∷ 0 ∷ 1 ∷ 1 ∷ 0 ∷ 1 ∷ []) (fail Outside 8)
+    example P7 (0 ∷ P7)
+    -- 1: no byte, an end between two fields, an end inside a number
+    ∷ example [] (1 ∷ 0 ∷ [])
+    ∷ example (1 ∷ 1 ∷ 10 ∷ []) (1 ∷ 3 ∷ [])
+    ∷ example (255 ∷ 255 ∷ 255 ∷ 255 ∷ []) (1 ∷ 0 ∷ [])
+    -- 2: not shortest; "a fifth group that continues is 2 even where the bytes end there"; 4,294,967,296, where 4,294,967,295 is only out of range
+    ∷ example (129 ∷ 0 ∷ []) (2 ∷ 0 ∷ [])
+    ∷ example (255 ∷ 255 ∷ 255 ∷ 255 ∷ 255 ∷ []) (2 ∷ 0 ∷ [])
+    ∷ example (128 ∷ 128 ∷ 128 ∷ 128 ∷ 16 ∷ []) (2 ∷ 0 ∷ [])
+    ∷ example (255 ∷ 255 ∷ 255 ∷ 255 ∷ 15 ∷ []) (4 ∷ 0 ∷ [])
+    -- 3
+    ∷ example (P7 ++ (9 ∷ [])) (3 ∷ 13 ∷ [])
+    -- 4 and 5, each before what stands behind it; the offset is in bytes: R is 300, in two of them
+    ∷ example (1 ∷ 17 ∷ 128 ∷ 0 ∷ []) (4 ∷ 1 ∷ [])
+    ∷ example (1 ∷ 1 ∷ 172 ∷ 2 ∷ 0 ∷ 1 ∷ 2 ∷ []) (5 ∷ 6 ∷ [])
     ∷ []
 
-pub table-read : map (λ (e : Example). sheetOf (e .bytes)) table ≡ map (λ (e : Example). e .read) table
+pub table-read : map (λ (e : Example). answers (sheetOf (e .bytes))) table ≡ map (λ (e : Example). e .says) table
 unfolding sheetOf stepOn ruleAt seenAfter serverNumbers numberAt
 table-read = refl
 
@@ -72,3 +80,53 @@ greatest-bytes = refl
 pub greatest-read : sheetOf (encodeAll greatest) ≡ these greatest
 unfolding sheetOf stepOn ruleAt seenAfter serverNumbers numberAt encode
 greatest-read = refl
+
+-- The ranges, by their ends: every number at the bottom of its range is read, as every one at the top is; one below or above is refused.
+abbrev pub least : List ℕ
+least = 1 ∷ 1 ∷ 1 ∷ 0 ∷ 1 ∷ 1 ∷ 1 ∷ 0 ∷ 1 ∷ 0 ∷ 1 ∷ 0 ∷ 0 ∷ []
+
+pub least-read : sheetOf (encodeAll least) ≡ these least
+unfolding sheetOf stepOn ruleAt seenAfter serverNumbers numberAt encode
+least-read = refl
+
+-- one number of a list put in place of another: the list, the place, the number, and its refusal
+pub record Outside : Type 0 where
+  pub numbers : List ℕ
+  pub place : ℕ
+  pub number : ℕ
+  pub refusal : ℕ
+
+abbrev outside : List ℕ → ℕ → ℕ → ℕ → Outside
+outside xs i x n = record { numbers = xs; place = i; number = x; refusal = n }
+
+abbrev changed : Outside → List ℕ
+changed o = take (o .place) (o .numbers) ++ (o .number ∷ drop (suc (o .place)) (o .numbers))
+
+abbrev pub ends : List Outside
+ends =
+    -- edition, N
+    outside least 0 0 4 ∷ outside least 0 2 4 ∷ outside least 1 0 4 ∷ outside greatest 1 17 4
+    -- R, T: of the first server and of the last
+    ∷ outside least 2 0 4 ∷ outside greatest 2 1000001 4 ∷ outside greatest 32 1000001 4 ∷ outside greatest 3 1001 4 ∷ outside greatest 33 1001 4
+    -- number of cross flows
+    ∷ outside greatest 34 49 4
+    -- first, last: of the first flow and of the last; a last before its first
+    ∷ outside least 5 0 5 ∷ outside greatest 35 17 5 ∷ outside greatest 223 17 5 ∷ outside least 6 0 5 ∷ outside greatest 36 17 5 ∷ outside greatest 36 15 5
+    -- σ, ρ
+    ∷ outside greatest 37 65536 4 ∷ outside greatest 225 65536 4 ∷ outside least 8 0 4 ∷ outside greatest 38 65536 4 ∷ outside greatest 226 65536 4
+    -- the watched flow's
+    ∷ outside greatest 227 65536 4 ∷ outside least 10 0 4 ∷ outside greatest 228 65536 4
+    -- mode, g
+    ∷ outside greatest 229 2 4 ∷ outside least 12 1 4 ∷ outside greatest 230 10 4
+    ∷ []
+
+-- the writer's "offsets count numbers"
+pub ends-written : map (λ (o : Outside). answers (listOf (changed o))) ends ≡ map (λ (o : Outside). o .refusal ∷ o .place ∷ []) ends
+unfolding listOf stepOn ruleAt seenAfter serverNumbers
+ends-written = refl
+
+-- the reader's count bytes
+pub ends-read : map (λ (o : Outside). answers (sheetOf (encodeAll (changed o)))) ends
+    ≡ map (λ (o : Outside). o .refusal ∷ length (encodeAll (take (o .place) (o .numbers))) ∷ []) ends
+unfolding sheetOf stepOn ruleAt seenAfter serverNumbers numberAt encode
+ends-read = refl

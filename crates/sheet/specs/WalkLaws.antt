@@ -44,6 +44,27 @@ walked source size k at i e ys h = walked-by (stepOn (source at) size at (ruleAt
 pub walk-none : (source : ℕ → Got) (size at i : ℕ) (e : Seen) (ys : List ℕ) → walk source size 0 at i e ≡ these ys → ⊥
 walk-none source size at i e ys h = let q : _≡_ {A = ℕ} 0 1 = cc in omega arith
 
+also-fail : (x : ℕ) (f : Found) (w : Why) (d : ℕ) → also x f ≡ fail w d → f ≡ fail w d
+also-fail x (fail w′ d′) w d e = e
+also-fail x (these zs) w d e = let q : _≡_ {A = ℕ} 0 1 = cc in absurd (omega arith)
+
+-- A walk that refuses either gave a number and refuses behind it, or refuses here.
+pub data Stopped (source : ℕ → Got) (size k at i : ℕ) (e : Seen) (w : Why) (d : ℕ) : Type 0 where
+  behind : (x next : ℕ) → Gave (source at) (ruleAt i e) x next → walk source size k next (i + 1) (seenAfter e i x) ≡ fail w d
+      → Stopped source size k at i e w d
+  here : stepOn (source at) size at (ruleAt i e) ≡ Stop w d → Stopped source size k at i e w d
+
+stopped-by : (st : Step) (source : ℕ → Got) (size k at i : ℕ) (e : Seen) (w : Why) (d : ℕ) → stepOn (source at) size at (ruleAt i e) ≡ st
+    → onStep st (λ x next. also x (walk source size k next (i + 1) (seenAfter e i x))) ≡ fail w d → Stopped source size k at i e w d
+stopped-by (Value x next) source size k at i e w d s h =
+    behind x next (step-gave (source at) size at (ruleAt i e) x next s) (also-fail x (walk source size k next (i + 1) (seenAfter e i x)) w d h)
+stopped-by (Stop w′ d′) source size k at i e w d s h = here (s ∙ cc)
+stopped-by End source size k at i e w d s h = let q : _≡_ {A = ℕ} 0 1 = cc in absurd (omega arith)
+
+pub stopped : (source : ℕ → Got) (size k at i : ℕ) (e : Seen) (w : Why) (d : ℕ) → walk source size (suc k) at i e ≡ fail w d
+    → Stopped source size k at i e w d
+stopped source size k at i e w d h = stopped-by (stepOn (source at) size at (ruleAt i e)) source size k at i e w d refl h
+
 -- A list that is a sheet is taken whole.
 rest-by : (k : ℕ) (xs : List ℕ) (i : ℕ) (e : Seen) (ys : List ℕ) → Walked (entryAt xs) (length xs) k i i e ys
     → ((zs : List ℕ) (e′ : Seen) → walk (entryAt xs) (length xs) k (i + 1) (i + 1) e′ ≡ these zs → zs ≡ drop (i + 1) xs) → ys ≡ drop i xs

@@ -184,8 +184,8 @@ zeros-front more k (suc n) =
     let same : k + 1 + n ≡ k + suc n = omega arith in (
       r .0 ++ others,
       ap (λ (l : List ℕ). zeros l ++ others) (replicate-append-replicate k 1 0)
-      ∙ ap (λ (l : List (List ℕ)). l ++ others) (r .1)
-      ∙ ap (λ (m : ℕ). replicate m 0 ∷ (r .0 ++ others)) same,
+          ∙ ap (λ (l : List (List ℕ)). l ++ others) (r .1)
+          ∙ ap (λ (m : ℕ). replicate m 0 ∷ (r .0 ++ others)) same,
     )
 
 pub length-flat : {A B : Type 0} (h : A → List B) (m : ℕ) → ((e : A) → length (h e) ≡ m) → (l : List A) → length (flat h l) ≡ length l * m
