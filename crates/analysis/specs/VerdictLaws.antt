@@ -71,12 +71,19 @@ pub data Said (bytes : List ℕ) : Type 0 where
   listing : (xs : List ℕ) → sheetOf bytes ≡ these xs → Valid xs → checkOf xs ≡ check.Passed → verdictOf bytes ≡ bounded (listingOf xs)
       → analysedOf bytes ≡ filled (rowOf xs .groups) (listingOf xs) → Said bytes
 
+pub passed-verdict : (bytes xs : List ℕ) → sheetOf bytes ≡ these xs → Valid xs → checkOf xs ≡ check.Passed → verdictOf bytes ≡ bounded (listingOf xs)
+unfolding verdictOf
+passed-verdict bytes xs s v e =
+    let p = passed-row xs v e in
+    let l = never-too-large (tandemOf xs) (p .accepts) (p .limited) (mode xs) (gridUsed xs) (grid-held xs v e .0) in
+    rw (s, e, l)
+
 said-row : (bytes xs : List ℕ) → sheetOf bytes ≡ these xs → Valid xs → (c : Check) → checkOf xs ≡ c → checkDetail c ≤ 48 → Said bytes
 unfolding verdictOf analysedOf judgedHeld
 said-row bytes xs s v check.Passed e d =
     let p = passed-row xs v e in
     let l = never-too-large (tandemOf xs) (p .accepts) (p .limited) (mode xs) (gridUsed xs) (grid-held xs v e .0) in
-    listing xs s v e (rw (s, e, l)) (rw (s, e, l))
+    listing xs s v e (passed-verdict bytes xs s v e) (rw (s, e, l))
 said-row bytes xs s v check.Crossing e d = refusing Crossing (of-row (omega arith)) (rw (s, e)) (rw (s, e)) refl
 said-row bytes xs s v (check.Crowded j) e d = refusing (Crowded j) (of-row d) (rw (s, e)) (rw (s, e)) refl
 said-row bytes xs s v (check.Points n) e d = refusing (Points n) (of-row d) (rw (s, e)) (rw (s, e)) refl

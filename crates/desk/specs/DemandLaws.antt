@@ -28,7 +28,7 @@ use Rattle.analysis.specs.declared.Judged.the-variants.{Refused, Crossing, Crow
 use Rattle.analysis.specs.Verdict.{Listing, listingOf, Verdict, refused, bounded, verdictOf, isBounded, judgedNumber, judgedDetail, recordNumbers, recordOf}
 use Rattle.analysis.specs.VerdictLaws.{Said, refusing, listing, said, Small, listing-small}
 use Rattle.desk.specs.Packed.{asOne}
-use Rattle.desk.specs.DetailLaws.{encode-all-few}
+use Rattle.desk.specs.DetailLaws.{record-short}
 use Rattle.desk.specs.Answer.{answerGives, answerHolds}
 
 -- "The program takes at most the first 1,024 bytes of standard input, which never changes the verdict."
@@ -60,10 +60,6 @@ first-number : (l : Listing) (answer : List ℕ) → l .bound < 4294967296 → l
 first-number l answer small room =
     rw (le-ltb (length answer) (length (recordOf l)) room, append-assoc)
     (read-written [] (l .bound) _ small ∙ ap (Number (l .bound)) (zero-add (length (encode (l .bound)))))
-
--- an answer record has at most 175 bytes: four numbers and at most 31 waits, of at most five bytes each
-pub record-short : (l : Listing) → Small l → length (recordOf l) ≤ 175
-record-short l s = omega (arith, encode-all-few (recordNumbers l), s .few, s .each)
 
 -- success is refusal 0, that is a number below 2^32
 room-for : (l : Listing) (room : ℕ) → answerGives (bounded l) room < 4294967296 → length (recordOf l) ≤ room

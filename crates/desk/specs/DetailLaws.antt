@@ -23,6 +23,8 @@ use Rattle.sheet.specs.Rule.{most, ruleAt, seenAfter}
 use Rattle.sheet.specs.Refusal.{detail}
 use Rattle.sheet.specs.Sheet.{Found, fail, these, also, onStep, stepOn, walk, nothing, sheetOf, entryAt, listOf, encodeAll, readGives, writeGives}
 use Rattle.sheet.specs.StepLaws.{Small, Gave, step-gave, step-stopped, past-late, small-after, Entry, entry-was}
+use Rattle.analysis.specs.Verdict.{Listing, recordNumbers, recordOf}
+use Rattle.analysis.specs.VerdictLaws as verdict
 use Rattle.sheet.specs.WalkLaws.{Walked, gave, ended, walked, walk-none, Stopped, behind, here, stopped}
 
 -- How far a number reaches in a source: five bytes at most in a byte string, one entry in a list.
@@ -125,3 +127,7 @@ write-by (these ys) xs room e =
 
 pub write-detail-small : (xs : List ℕ) (room : ℕ) → detail (writeGives (listOf xs) room) < 4294967296
 write-detail-small xs room = write-by (listOf xs) xs room refl
+
+-- an answer record has at most 175 bytes: four numbers and at most 31 waits, of at most five bytes each
+pub record-short : (l : Listing) → verdict.Small l → length (recordOf l) ≤ 175
+record-short l s = omega (arith, encode-all-few (recordNumbers l), s .few, s .each)

@@ -1,6 +1,8 @@
 pub mod Packed
 pub mod Answer
 pub mod Record
-pub mod DetailLaws
-pub mod DemandLaws
 pub mod Unique
+pub mod Says
+pub mod DetailLaws
+pub mod SaysLaws
+pub mod DemandLaws

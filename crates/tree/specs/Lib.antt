@@ -11,6 +11,7 @@ pub mod Stands
 pub mod Searched
 pub mod Ordered
 pub mod Meaning
+pub mod Chosen
 pub mod PlanLaws
 pub mod NodeLaws
 pub mod NestedLaws
@@ -23,5 +24,6 @@ pub mod Large
 pub mod LargeLaws
 pub mod GridLaws
 pub mod SearchLaws
+pub mod ChosenLaws
 pub mod MeaningLaws
 pub mod Met

@@ -1,0 +1,50 @@
+-- The search of an accepted row chooses its answer as demand 2 says.
+-- Assumes nothing.
+use Prim.Native.Nat.{ℕ, zero, suc, _≤_}
+use mathlib.Core.Path.{_≡_, refl, sym, ap, subst}
+use mathlib.Core.List.{List}
+use native.Mathlib.Omega.{arith}
+use lib.ListN.{length, replicate}
+use Rattle.curves.specs.Slots.{Covers, Least}
+use Rattle.row.specs.Tandem.{Tandem, flow}
+use Rattle.row.specs.Groups.{groups}
+use Rattle.row.specs.Accepted.{Accepted}
+use Rattle.tree.specs.Grid.{Answer, foundOf}
+use Rattle.tree.specs.Tree.{tree}
+use Rattle.tree.specs.Bound.{extraOf, answerAt, searched}
+use Rattle.tree.specs.Meaning.{meaning}
+use Rattle.tree.specs.Chosen.{Chosen, noExtras}
+use Rattle.tree.specs.MeaningLaws.{bound-is-least}
+use Rattle.tree.specs.GridLaws.{quick-is}
+use Rattle.tree.specs.SearchLaws.{searched-first}
+
+-- what stands at a point has the least delay that covers the watched flow's bucket
+least-there : (row : Tandem) → Accepted row → (point : List ℕ) (best : Answer) → best ≡ answerAt row point
+    → Least (Covers (meaning row (extraOf point) (tree row)) (flow row 0 .burst) (flow row 0 .rate)) (best .delay)
+unfolding answerAt
+least-there row ok point best e =
+    subst (λ (d : ℕ). Least (Covers (meaning row (extraOf point) (tree row)) (flow row 0 .burst) (flow row 0 .rate)) d) (sym (ap (λ (a : Answer). a .delay) e))
+    (bound-is-least row ok (extraOf point))
+
+pub searched-chosen : (row : Tandem) → Accepted row → (mode g : ℕ) → mode ≤ 1 → 1 ≤ g → Chosen row mode g (searched row mode g .start) (searched row mode g .best)
+unfolding searched foundOf
+searched-chosen row ok zero g m h =
+    let f = searched-first row g h in
+    record {
+      point = f .point;
+      there = f .there;
+      begins = refl;
+      searches = λ z. (f, refl);
+      quick = λ z. absurd (omega arith);
+      least = least-there row ok (f .point) _ (f .there);
+    }
+searched-chosen row ok (suc mode) g m h =
+    let q = quick-is (answerAt row) (length (groups row)) (suc mode) g (omega arith) in
+    record {
+      point = noExtras row;
+      there = q;
+      begins = refl;
+      searches = λ z. absurd (omega arith);
+      quick = λ z. refl;
+      least = least-there row ok (noExtras row) _ q;
+    }
