@@ -37,7 +37,8 @@ slots a b c d out (suc (suc (suc zero))) = c
 slots a b c d out (suc (suc (suc (suc zero)))) = d
 slots a b c d out (suc (suc (suc (suc (suc t))))) = out
 
--- what joins and what leaves where the record does not reach. The row has no flow 4, and the watched flow has not as many bytes in one slot.
+-- what joins and what leaves where the record does not reach. The row has no flow 4, the watched flow has not as many bytes in one slot, and what
+-- leaves is not what joined. Server 1 sends nothing there, which is less than it guarantees.
 abbrev pub joinsOutside : List ℕ
 joinsOutside = 4 ∷ 0 ∷ 0 ∷ 0 ∷ 0 ∷ []
 
@@ -54,7 +55,7 @@ joins (suc (suc (suc (suc j)))) t = joinsOutside
 
 abbrev pub leaves : ℕ → ℕ → List ℕ
 leaves zero t = leavesOutside
-leaves (suc zero) t = slots (0 ∷ 0 ∷ []) [] [] (0 ∷ []) leavesOutside t
+leaves (suc zero) t = slots (0 ∷ 0 ∷ []) [] [] (0 ∷ []) [] t
 leaves (suc (suc zero)) t = slots (1 ∷ 0 ∷ []) (2 ∷ 0 ∷ []) (1 ∷ 2 ∷ []) (0 ∷ 1 ∷ []) leavesOutside t
 leaves (suc (suc (suc zero))) t = slots (3 ∷ 0 ∷ 3 ∷ []) (3 ∷ 0 ∷ []) (3 ∷ 3 ∷ []) (0 ∷ []) leavesOutside t
 leaves (suc (suc (suc (suc j)))) t = leavesOutside
