@@ -1,6 +1,7 @@
 pub mod Lines
 pub mod Run
 pub mod Demand
+pub mod BoundFigures
 pub mod Served
 pub mod RunTests
 pub mod Mistakes
@@ -12,4 +13,6 @@ pub mod WithinLaws
 pub mod DemandLaws
 pub mod RunTestLaws
 pub mod Witness
+pub mod Fresh
+pub mod Freedom
 pub mod MistakeLaws

@@ -12,6 +12,7 @@ use lib.ListN.{length}
 use Rattle.numbers.specs.Seven.{numberAt}
 use Rattle.sheet.specs.Rule.{ruleAt, seenAfter, serverNumbers}
 use Rattle.sheet.specs.Sheet.{stepOn, sheetOf, these}
+use Rattle.sheet.specs.Valid.{serverCount, mode, grid}
 use Rattle.curves.specs.Slots.{bucket, serve, left, zeroUpTo, Covers, Least}
 use Rattle.curves.specs.SlotsLaws.{le-or-lt, zero-before, zero-after}
 use Rattle.curves.specs.Curve.{neutral, joined, ceil, greatest, catchUp, leastWait, remainder, lateness, delay}
@@ -80,11 +81,12 @@ pub burst-passed : checkOf burstSheet ≡ Passed
 unfolding checkOf tandemOf listed gridOf notNested overlaps lowestCrowded crowded tooMany rates total crosses groups from-on from used any on
 burst-passed = refl
 
--- by the rule it is 7, with the same wait
-pub burst-bound : boundOf burstSheet ≡ 7
+-- by the rule it is 7, with the same wait: the one group's wait at the point of the grid that gives the bound is 4
+pub burst-bound : (boundOf burstSheet ≡ 7)
+    × (searched (tandemOf burstSheet) (mode burstSheet) (gridOf (serverCount burstSheet) (grid burstSheet)) .best .waits ≡ 4 ∷ [])
 unfolding boundOf searched foundOf answerAt waits bound stepsOf pointsOf better tandemOf listed gridOf groups from-on from used any on
     tree walk top curve joined neutral serverShape afterGroup groupWait leastWait catchUp remainder bursts rates total delay lateness greatest ceil
-burst-bound = refl
+burst-bound = (refl, refl)
 
 -- the run keeps every premise
 pub burst-keeps : Keeps (tandemOf burstSheet) burstRun 6
