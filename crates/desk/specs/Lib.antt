@@ -5,4 +5,7 @@ pub mod Unique
 pub mod Says
 pub mod DetailLaws
 pub mod SaysLaws
+pub mod Answered
 pub mod DemandLaws
+pub mod EntryLaws
+pub mod Figures

@@ -11,11 +11,11 @@ use lib.ListN.{length}
 use borrow.Author.Tests.{lt-ltb, le-ltb}
 use Rattle.numbers.specs.SevenLaws.{lt-or-ge, Bytes}
 use Rattle.sheet.specs.declared.Why.{Why}
-use Rattle.sheet.specs.declared.Why.the-variants.{Ends, Padded, Large, Left, Outside, OffPath, Short}
 use Rattle.sheet.specs.Refusal.{refusal}
 use Rattle.sheet.specs.Sheet.{Found, fail, these, sheetOf}
 use Rattle.sheet.specs.Valid.{Valid, mode}
 use Rattle.sheet.specs.TripLaws.{read-valid}
+use Rattle.sheet.specs.AcceptLaws.{read-refused}
 use Rattle.row.specs.declared.Check.the-variants as check
 use Rattle.row.specs.Tandem.{Tandem, size}
 use Rattle.row.specs.Groups.{groups}
@@ -56,7 +56,7 @@ module _ (s xs : List ℕ) (read : sheetOf s ≡ these xs) where
   eight-verdict n u m =
       rw (read, points-third xs (nested n) (crowded-none (tandemOf xs) u) (points-too-many (tandemOf xs) (mode xs) (gridUsed xs) (m .0) (m .1)))
 
-  passes : Passes xs → checkOf xs ≡ check.Passed
+  pub passes : Passes xs → checkOf xs ≡ check.Passed
   passes p =
       passed-last xs (nested (p .nested)) (crowded-none (tandemOf xs) (p .uncrowded))
       (not-passed (tooMany (tandemOf xs) (mode xs) (gridUsed xs)) (λ e. p .few-points (too-many-points (tandemOf xs) (mode xs) (gridUsed xs) e)))
@@ -93,29 +93,29 @@ says-given s before n d after (answers xs e p l a b h) =
 
 -- and the other way: each call falls under one case
 
--- the number of a refusal of the bytes
-pub refusal-known : (w : Why) → ((1 ≤ refusal w) × (refusal w ≤ 5)) ⊎ (refusal w ≡ 10)
-refusal-known Ends = inl (omega arith, omega arith)
-refusal-known Padded = inl (omega arith, omega arith)
-refusal-known Large = inl (omega arith, omega arith)
-refusal-known Left = inl (omega arith, omega arith)
-refusal-known Outside = inl (omega arith, omega arith)
-refusal-known OffPath = inl (omega arith, omega arith)
-refusal-known Short = inr refl
-
 -- refusal and detail can be told apart in the one number
 pub apart : (n d n′ d′ : ℕ) → d < 4294967296 → d′ < 4294967296 → asOne n d ≡ asOne n′ d′ → (n ≡ n′) × (d ≡ d′)
 apart n d n′ d′ h h′ e = (omega arith, omega arith)
+
+-- every detail is below 2^32
+says-small : (s before : List ℕ) (n d : ℕ) (after : List ℕ) → Bytes s → Says s before n d after → d < 4294967296
+says-small s before n d after bytes (of-bytes w e a h) = omega (arith, read-place s w d bytes e)
+says-small s before n d after bytes (six xs e c a b h) = omega arith
+says-small s before n d after bytes (seven xs e m l a h) = omega (arith, l .before, row-size xs, read-valid s xs e .servers .most)
+says-small s before n d after bytes (eight xs e m u t a b h) =
+    let v = read-valid s xs e in
+    omega (arith, b, few-groups (tandemOf xs) (accepted xs v (nested s xs e m) (crowded-none (tandemOf xs) u)) (limits xs v))
+says-small s before n d after bytes (ten xs e p l a b h) = omega (arith, b, answer-short s xs e p)
+says-small s before n d after bytes (answers xs e p l a b h) = omega (arith, b, answer-short s xs e p)
 
 -- a case, with its refusal and detail
 record Told (s before : List ℕ) (r : ℕ) (after : List ℕ) : Type 0 where
   number : ℕ
   detail : ℕ
   one : r ≡ asOne number detail
-  small : detail < 4294967296
   says : Says s before number detail after
 
-module _ (s before : List ℕ) (r : ℕ) (after : List ℕ) (bytes : Bytes s) (call : Analysing s before r after) where
+module _ (s before : List ℕ) (r : ℕ) (after : List ℕ) (call : Analysing s before r after) where
   given-by : (v : Verdict) → verdictOf s ≡ v → r ≡ answerGives v (length before)
   given-by v e = call .gives ∙ ap (λ (v : Verdict). answerGives v (length before)) e
 
@@ -130,7 +130,6 @@ module _ (s before : List ℕ) (r : ℕ) (after : List ℕ) (bytes : Bytes s) (c
         number = 10;
         detail = length (answerOf xs);
         one = rw t at (given-by (bounded (listingOf xs)) v);
-        small = omega (arith, answer-short s xs e p);
         says = ten xs e p l refl refl (rw t at (held-by (bounded (listingOf xs)) v));
       }
   told-answer xs e p (inr l) =
@@ -140,7 +139,6 @@ module _ (s before : List ℕ) (r : ℕ) (after : List ℕ) (bytes : Bytes s) (c
         number = 0;
         detail = length (answerOf xs);
         one = rw t at (given-by (bounded (listingOf xs)) v);
-        small = omega (arith, answer-short s xs e p);
         says = answers xs e p l refl refl (rw t at (held-by (bounded (listingOf xs)) v));
       }
 
@@ -156,7 +154,6 @@ module _ (s before : List ℕ) (r : ℕ) (after : List ℕ) (bytes : Bytes s) (c
           number = 8;
           detail = length (groups row);
           one = given-by _ v;
-          small = omega (arith, few-groups row (accepted xs (read-valid s xs e) (nested s xs e n) (crowded-none row u)) (limits xs (read-valid s xs e)));
           says = eight xs e n u m refl refl (held-by _ v);
         }
     told-points n u (inr t) =
@@ -173,7 +170,6 @@ module _ (s before : List ℕ) (r : ℕ) (after : List ℕ) (bytes : Bytes s) (c
           number = 7;
           detail = lowestCrowded row 1 (size row);
           one = given-by _ v;
-          small = omega (arith, l .before, row-size xs, read-valid s xs e .servers .most);
           says = seven xs e n l refl (held-by _ v);
         }
 
@@ -181,7 +177,7 @@ module _ (s before : List ℕ) (r : ℕ) (after : List ℕ) (bytes : Bytes s) (c
     told-row (inl t) =
         let c = not-nested-crossed row t in
         let v = six-verdict s xs e c in
-        record { number = 6; detail = 0; one = given-by _ v; small = omega arith; says = six xs e c refl refl (held-by _ v) }
+        record { number = 6; detail = 0; one = given-by _ v; says = six xs e c refl refl (held-by _ v) }
     told-row (inr t) = told-crowded (λ c. true≢false (sym (crossed-not-nested row c) ∙ t)) (le-or-lt (lowestCrowded row 1 (size row)) 0)
 
   told : Told s before r after
@@ -195,42 +191,84 @@ module _ (s before : List ℕ) (r : ℕ) (after : List ℕ) (bytes : Bytes s) (c
             number = refusal w;
             detail = d;
             one = given-by (refused (Refused w d)) v;
-            small = omega (arith, read-place s w d bytes e);
             says = of-bytes w e refl (held-by (refused (Refused w d)) v);
           }
       by (these xs) e = told-row xs e (decide (notNested (tandemOf xs)))
 
-  -- what is given as refusal n with detail d is given for its reason
-  pub given-says : (n d : ℕ) → d < 4294967296 → r ≡ asOne n d → Says s before n d after
-  given-says n d h e =
+  -- success is refusal 0, a number below 2^32: then there is an answer record
+  pub success-says : r < 4294967296 → Says s before 0 r after
+  success-says h =
       let t = told in
-      let a = apart (t .number) (t .detail) n d (t .small) h (sym (t .one) ∙ e) in
-      subst (λ (x : ℕ). Says s before x d after) (a .0) (subst (λ (x : ℕ). Says s before (t .number) x after) (a .1) (t .says))
+      let n : t .number ≡ 0 = omega (arith, t .one) in
+      let d : t .detail ≡ r = omega (arith, t .one) in
+      subst (λ (x : ℕ). Says s before x r after) n (subst (λ (x : ℕ). Says s before (t .number) x after) d (t .says))
 
   -- "On refusal the buffer stays as it was."
   pub refusal-writes-nothing : 4294967296 ≤ r → after ≡ before
-  refusal-writes-nothing h = let t = told in by (t .number) (t .detail) (t .one) (t .small) (t .says)
+  refusal-writes-nothing h = let t = told in by (t .number) (t .detail) (t .one) (t .says)
     where
-      by : (n d : ℕ) → r ≡ asOne n d → d < 4294967296 → Says s before n d after → after ≡ before
-      by n d o l (of-bytes w e a k) = k
-      by n d o l (six xs e c a b k) = k
-      by n d o l (seven xs e m w a k) = k
-      by n d o l (eight xs e m u t a b k) = k
-      by n d o l (ten xs e p w a b k) = k
-      by n d o l (answers xs e p w a b k) = absurd (omega arith)
+      by : (n d : ℕ) → r ≡ asOne n d → Says s before n d after → after ≡ before
+      by n d o (of-bytes w e a k) = k
+      by n d o (six xs e c a b k) = k
+      by n d o (seven xs e m w a k) = k
+      by n d o (eight xs e m u t a b k) = k
+      by n d o (ten xs e p w a b k) = k
+      by n d o (answers xs e p w a b k) = absurd (omega (arith, answer-short s xs e p))
+
+module _ (s before : List ℕ) (r : ℕ) (after : List ℕ) (bytes : Bytes s) (call : Analysing s before r after) where
+  -- what is given as refusal n with detail d is given for its reason
+  pub given-says : (n d : ℕ) → d < 4294967296 → r ≡ asOne n d → Says s before n d after
+  given-says n d h e =
+      let t = told s before r after call in
+      let a = apart (t .number) (t .detail) n d (says-small s before (t .number) (t .detail) after bytes (t .says)) h (sym (t .one) ∙ e) in
+      subst (λ (x : ℕ). Says s before x d after) (a .0) (subst (λ (x : ℕ). Says s before (t .number) x after) (a .1) (t .says))
 
   -- 9 is never given
   pub never-nine : (d : ℕ) → d < 4294967296 → r ≡ asOne 9 d → ⊥
   never-nine d h e = by (given-says 9 d h e)
     where
       by : Says s before 9 d after → ⊥
-      by (of-bytes w e a k) = known (refusal-known w)
-        where
-          known : ((1 ≤ refusal w) × (refusal w ≤ 5)) ⊎ (refusal w ≡ 10) → ⊥
-          known (inl l) = omega (arith, a, l .1)
-          known (inr l) = omega (arith, a, l)
+      by (of-bytes w e a k) = omega (arith, a, read-refused s w d e .1)
       by (six xs e c a b k) = omega arith
       by (seven xs e m w a k) = omega arith
       by (eight xs e m u t a b k) = omega arith
       by (ten xs e p w a b k) = omega arith
       by (answers xs e p w a b k) = omega arith
+
+  -- 6, 7 and 8 only where their sentences hold of the sheet's row and no earlier refusal does (and there always: `says-given`)
+
+  pub six-only : (d : ℕ) → d < 4294967296 → r ≡ asOne 6 d → (xs : List ℕ) × (sheetOf s ≡ these xs) × Crossed (tandemOf xs) × (d ≡ 0)
+  six-only d h e = by (given-says 6 d h e)
+    where
+      by : Says s before 6 d after → (xs : List ℕ) × (sheetOf s ≡ these xs) × Crossed (tandemOf xs) × (d ≡ 0)
+      by (of-bytes w e a k) = absurd (omega (arith, a, read-refused s w d e .1))
+      by (six xs e c a b k) = (xs, e, c, b)
+      by (seven xs e m w a k) = absurd (omega arith)
+      by (eight xs e m u t a b k) = absurd (omega arith)
+      by (ten xs e p w a b k) = absurd (omega arith)
+      by (answers xs e p w a b k) = absurd (omega arith)
+
+  pub seven-only : (d : ℕ) → d < 4294967296 → r ≡ asOne 7 d
+      → (xs : List ℕ) × (sheetOf s ≡ these xs) × (Crossed (tandemOf xs) → ⊥) × Lowest (tandemOf xs) 1 (size (tandemOf xs)) d
+  seven-only d h e = by (given-says 7 d h e)
+    where
+      by : Says s before 7 d after → (xs : List ℕ) × (sheetOf s ≡ these xs) × (Crossed (tandemOf xs) → ⊥) × Lowest (tandemOf xs) 1 (size (tandemOf xs)) d
+      by (of-bytes w e a k) = absurd (omega (arith, a, read-refused s w d e .1))
+      by (six xs e c a b k) = absurd (omega arith)
+      by (seven xs e m w a k) = (xs, e, m, w)
+      by (eight xs e m u t a b k) = absurd (omega arith)
+      by (ten xs e p w a b k) = absurd (omega arith)
+      by (answers xs e p w a b k) = absurd (omega arith)
+
+  pub eight-only : (d : ℕ) → d < 4294967296 → r ≡ asOne 8 d
+      → (xs : List ℕ) × (sheetOf s ≡ these xs) × (Crossed (tandemOf xs) → ⊥) × Uncrowded xs × TooManyPoints xs × (d ≡ length (groups (tandemOf xs)))
+  eight-only d h e = by (given-says 8 d h e)
+    where
+      by : Says s before 8 d after
+          → (xs : List ℕ) × (sheetOf s ≡ these xs) × (Crossed (tandemOf xs) → ⊥) × Uncrowded xs × TooManyPoints xs × (d ≡ length (groups (tandemOf xs)))
+      by (of-bytes w e a k) = absurd (omega (arith, a, read-refused s w d e .1))
+      by (six xs e c a b k) = absurd (omega arith)
+      by (seven xs e m w a k) = absurd (omega arith)
+      by (eight xs e m u t a b k) = (xs, e, m, u, t, b)
+      by (ten xs e p w a b k) = absurd (omega arith)
+      by (answers xs e p w a b k) = absurd (omega arith)
