@@ -18,6 +18,10 @@ use Rattle.runs.specs.Run.{Run, Keeps}
 use Rattle.runs.specs.Demand.{OnTime, Within}
 use Rattle.analysis.specs.Verdict.{gridUsed}
 
+-- "The answer record is bound, start, g (0 replaced by its meaning), number of groups, each group's wait, as seven-bit numbers"
+abbrev pub answerRecord : List ℕ → ℕ → Answer → List ℕ
+answerRecord xs start best = encodeAll (best .delay ∷ start ∷ gridUsed xs ∷ length (groups (tandemOf xs)) ∷ best .waits)
+
 -- the call was lent the sheet s and a buffer that held `before`; it gave r, and the buffer holds `after`
 pub record Answered (s before : List ℕ) (r : ℕ) (after : List ℕ) : Type 1 where
   -- the sheet's numbers, the start, and the best answer: its delay is the bound
@@ -25,10 +29,9 @@ pub record Answered (s before : List ℕ) (r : ℕ) (after : List ℕ) : Type 1 
   pub read : sheetOf s ≡ these numbers
   pub start : ℕ
   pub best : Answer
-  -- "The answer record is bound, start, g (0 replaced by its meaning), number of groups, each group's wait, as seven-bit numbers"; "the written
-  -- length on success"; "bytes past the length stay"
-  pub record-is : after ≡ encodeAll (best .delay ∷ start ∷ gridUsed numbers ∷ length (groups (tandemOf numbers)) ∷ best .waits) ++ drop r before
-  pub length-is : r ≡ length (encodeAll (best .delay ∷ start ∷ gridUsed numbers ∷ length (groups (tandemOf numbers)) ∷ best .waits))
+  -- "the written length on success"; "bytes past the length stay"
+  pub length-is : r ≡ length (answerRecord numbers start best)
+  pub record-is : after ≡ answerRecord numbers start best ++ drop r before
   -- so the number that stands first is the bound
   pub first : numberAt after 0 ≡ Number (best .delay) (length (encode (best .delay)))
   -- DEMAND 2: the point with the least delay, the first on a tie; in mode 1 the first point

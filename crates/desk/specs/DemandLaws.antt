@@ -2,7 +2,7 @@
 -- succeeds has answered as demands 2 and 3 say.
 -- Assumes nothing.
 use Prim.Native.Nat.{ℕ, _≤_, _<_}
-use mathlib.Core.Path.{_≡_, refl, ap, _∙_}
+use mathlib.Core.Path.{_≡_, refl, sym, ap, _∙_, subst}
 use mathlib.Core.List.{List, [], _++_, append-assoc}
 use native.Mathlib.Nat.{zero-add}
 use native.Mathlib.Omega.{arith}
@@ -18,7 +18,8 @@ use Rattle.sheet.specs.AcceptLaws.{read-refused}
 use Rattle.row.specs.OfSheet.{tandemOf}
 use Rattle.row.specs.OfSheetLaws.{passed-row}
 use Rattle.tree.specs.Bound.{searched}
-use Rattle.tree.specs.ChosenLaws.{searched-chosen}
+use Rattle.tree.specs.Chosen.{Chosen}
+use Rattle.tree.specs.ChosenLaws.{searched-chosen, chosen-unique}
 use Rattle.runs.specs.Demand.{boundOf}
 use Rattle.runs.specs.DemandLaws.{demand-three, demand-three-in-order}
 use Rattle.analysis.specs.SearchLaws.{grid-held}
@@ -27,7 +28,7 @@ use Rattle.analysis.specs.VerdictLaws.{listing-small}
 use Rattle.desk.specs.Unique.{Analysing}
 use Rattle.desk.specs.Says.{Passes, answerOf, Says, of-bytes, six, seven, eight, ten, answers}
 use Rattle.desk.specs.SaysLaws.{passes, success-says}
-use Rattle.desk.specs.Answered.{Answered}
+use Rattle.desk.specs.Answered.{answerRecord, Answered}
 
 -- "The program takes at most the first 1,024 bytes of standard input, which never changes the verdict."
 pub front-analysis : (s : List ℕ) → Bytes s → verdictOf (take 1024 s) ≡ verdictOf s
@@ -68,3 +69,19 @@ answered s before r after call h = by (success-says s before r after call h)
     by (eight xs e m u t a b k) = absurd (omega arith)
     by (ten xs e p w a b k) = absurd (omega arith)
     by (answers xs e p w a b k) = answer-of s before r after xs e p b k
+
+-- and what they say leaves one number and one content of the buffer
+pub answered-unique : (s before : List ℕ) (r r′ : ℕ) (after after′ : List ℕ) → Answered s before r after → Answered s before r′ after′
+    → (r ≡ r′) × (after ≡ after′)
+answered-unique s before r r′ after after′ a b =
+    let xs : b .numbers ≡ a .numbers = cc (a .read, b .read) in
+    let chosen = subst (λ (xs : List ℕ). Chosen (tandemOf xs) (mode xs) (gridUsed xs) (b .start) (b .best)) xs (b .chosen) in
+    let one =
+    chosen-unique (tandemOf (a .numbers)) (mode (a .numbers)) (gridUsed (a .numbers)) (a .start) (b .start) (a .best) (b .best)
+    (read-valid s (a .numbers) (a .read) .modes .most) (a .chosen) chosen in
+    let bytes : answerRecord (a .numbers) (a .start) (a .best) ≡ answerRecord (b .numbers) (b .start) (b .best) = rw (xs, one .0, one .1) in
+    let r-is : r ≡ r′ = a .length-is ∙ ap length bytes ∙ sym (b .length-is) in (
+      r-is,
+      a .record-is ∙ ap (λ (l : List ℕ). l ++ drop r before) bytes ∙ ap (λ (n : ℕ). answerRecord (b .numbers) (b .start) (b .best) ++ drop n before) r-is
+          ∙ sym (b .record-is),
+    )
