@@ -32,6 +32,13 @@ pub record Figure : Type 0 where
 abbrev figure : List ℕ → List ℕ → Figure
 figure s a = record { sheet = s; says = a }
 
+-- six servers of rate R, a group on each, g 9
+abbrev sixGroups : ℕ → ℕ → List ℕ
+sixGroups R mode =
+    1 ∷ 6 ∷ R ∷ 0 ∷ R ∷ 0 ∷ R ∷ 0 ∷ R ∷ 0 ∷ R ∷ 0 ∷ R ∷ 0
+    ∷ 6 ∷ 1 ∷ 1 ∷ 1 ∷ 1 ∷ 2 ∷ 2 ∷ 1 ∷ 1 ∷ 3 ∷ 3 ∷ 1 ∷ 1 ∷ 4 ∷ 4 ∷ 1 ∷ 1 ∷ 5 ∷ 5 ∷ 1 ∷ 1 ∷ 6 ∷ 6 ∷ 1 ∷ 1
+    ∷ 1 ∷ 1 ∷ mode ∷ 9 ∷ []
+
 abbrev pub table : List Figure
 table =
     -- P1 to P10
@@ -43,12 +50,13 @@ table =
     ∷ figure (1 ∷ 1 ∷ 10 ∷ 0 ∷ 1 ∷ 1 ∷ 1 ∷ 10 ∷ 6 ∷ 12 ∷ 4 ∷ 0 ∷ 3 ∷ []) (0 ∷ 3 ∷ 4 ∷ 3 ∷ 1 ∷ 3 ∷ [])
     -- P7: "The answer record is 3, 4, 4, 1, 2."
     ∷ figure (1 ∷ 1 ∷ 10 ∷ 0 ∷ 1 ∷ 1 ∷ 1 ∷ 10 ∷ 6 ∷ 12 ∷ 4 ∷ 0 ∷ 4 ∷ []) (0 ∷ 3 ∷ 4 ∷ 4 ∷ 1 ∷ 2 ∷ [])
-    ∷ figure (1 ∷ 3 ∷ 10 ∷ 1 ∷ 10 ∷ 1 ∷ 10 ∷ 1 ∷ 3 ∷ 1 ∷ 1 ∷ 4 ∷ 2 ∷ 2 ∷ 3 ∷ 4 ∷ 2 ∷ 3 ∷ 3 ∷ 4 ∷ 2 ∷ 6 ∷ 2 ∷ 0 ∷ 2 ∷ []) (0 ∷ 6 ∷ 6 ∷ 2 ∷ 3 ∷ 2 ∷ 4 ∷ 2 ∷ [])
+    ∷ figure (1 ∷ 3 ∷ 10 ∷ 1 ∷ 10 ∷ 1 ∷ 10 ∷ 1 ∷ 3 ∷ 1 ∷ 1 ∷ 4 ∷ 2 ∷ 2 ∷ 3 ∷ 4 ∷ 2 ∷ 3 ∷ 3 ∷ 4 ∷ 2 ∷ 6 ∷ 2 ∷ 0 ∷ 2 ∷ [])
+    (0 ∷ 6 ∷ 6 ∷ 2 ∷ 3 ∷ 2 ∷ 4 ∷ 2 ∷ [])
     ∷ figure (1 ∷ 3 ∷ 10 ∷ 0 ∷ 10 ∷ 0 ∷ 10 ∷ 0 ∷ 2 ∷ 1 ∷ 2 ∷ 1 ∷ 1 ∷ 2 ∷ 3 ∷ 1 ∷ 1 ∷ 1 ∷ 1 ∷ 0 ∷ 3 ∷ []) (6 ∷ 0 ∷ [])
     ∷ figure (1 ∷ 1 ∷ 10 ∷ 0 ∷ 1 ∷ 1 ∷ 1 ∷ 1 ∷ 6 ∷ 1 ∷ 5 ∷ 0 ∷ 3 ∷ []) (7 ∷ 1 ∷ [])
     -- "g 9, six groups | 8, detail 6"; in mode 1 it is not refused
-    ∷ figure (1 ∷ 6 ∷ 10 ∷ 0 ∷ 10 ∷ 0 ∷ 10 ∷ 0 ∷ 10 ∷ 0 ∷ 10 ∷ 0 ∷ 10 ∷ 0 ∷ 6 ∷ 1 ∷ 1 ∷ 1 ∷ 1 ∷ 2 ∷ 2 ∷ 1 ∷ 1 ∷ 3 ∷ 3 ∷ 1 ∷ 1 ∷ 4 ∷ 4 ∷ 1 ∷ 1 ∷ 5 ∷ 5 ∷ 1 ∷ 1 ∷ 6 ∷ 6 ∷ 1 ∷ 1 ∷ 1 ∷ 1 ∷ 0 ∷ 9 ∷ []) (8 ∷ 6 ∷ [])
-    ∷ figure (1 ∷ 6 ∷ 10 ∷ 0 ∷ 10 ∷ 0 ∷ 10 ∷ 0 ∷ 10 ∷ 0 ∷ 10 ∷ 0 ∷ 10 ∷ 0 ∷ 6 ∷ 1 ∷ 1 ∷ 1 ∷ 1 ∷ 2 ∷ 2 ∷ 1 ∷ 1 ∷ 3 ∷ 3 ∷ 1 ∷ 1 ∷ 4 ∷ 4 ∷ 1 ∷ 1 ∷ 5 ∷ 5 ∷ 1 ∷ 1 ∷ 6 ∷ 6 ∷ 1 ∷ 1 ∷ 1 ∷ 1 ∷ 1 ∷ 9 ∷ []) (0 ∷ 6 ∷ 6 ∷ 9 ∷ 6 ∷ 1 ∷ 1 ∷ 1 ∷ 1 ∷ 1 ∷ 1 ∷ [])
+    ∷ figure (sixGroups 10 0) (8 ∷ 6 ∷ [])
+    ∷ figure (sixGroups 10 1) (0 ∷ 6 ∷ 6 ∷ 9 ∷ 6 ∷ 1 ∷ 1 ∷ 1 ∷ 1 ∷ 1 ∷ 1 ∷ [])
     -- "the last group in the order moving fastest": with the first group fastest the waits would be 3, 1
     ∷ figure (1 ∷ 2 ∷ 10 ∷ 0 ∷ 10 ∷ 0 ∷ 2 ∷ 1 ∷ 2 ∷ 7 ∷ 3 ∷ 2 ∷ 2 ∷ 3 ∷ 5 ∷ 9 ∷ 1 ∷ 0 ∷ 4 ∷ []) (0 ∷ 3 ∷ 4 ∷ 4 ∷ 2 ∷ 3 ∷ 2 ∷ [])
     -- "Groups stand in order of first server, then longer path first": the flows are on (2,2), (1,1), (1,2)
@@ -64,9 +72,12 @@ table =
     -- "then 3, 6, 7, 8": P9 with a byte left over; P9 with too high a rate; six groups with too high rates
     ∷ figure (1 ∷ 3 ∷ 10 ∷ 0 ∷ 10 ∷ 0 ∷ 10 ∷ 0 ∷ 2 ∷ 1 ∷ 2 ∷ 1 ∷ 1 ∷ 2 ∷ 3 ∷ 1 ∷ 1 ∷ 1 ∷ 1 ∷ 0 ∷ 3 ∷ 0 ∷ []) (3 ∷ 21 ∷ [])
     ∷ figure (1 ∷ 3 ∷ 10 ∷ 0 ∷ 10 ∷ 0 ∷ 10 ∷ 0 ∷ 2 ∷ 1 ∷ 2 ∷ 1 ∷ 10 ∷ 2 ∷ 3 ∷ 1 ∷ 1 ∷ 1 ∷ 1 ∷ 0 ∷ 3 ∷ []) (6 ∷ 0 ∷ [])
-    ∷ figure (1 ∷ 6 ∷ 1 ∷ 0 ∷ 1 ∷ 0 ∷ 1 ∷ 0 ∷ 1 ∷ 0 ∷ 1 ∷ 0 ∷ 1 ∷ 0 ∷ 6 ∷ 1 ∷ 1 ∷ 1 ∷ 1 ∷ 2 ∷ 2 ∷ 1 ∷ 1 ∷ 3 ∷ 3 ∷ 1 ∷ 1 ∷ 4 ∷ 4 ∷ 1 ∷ 1 ∷ 5 ∷ 5 ∷ 1 ∷ 1 ∷ 6 ∷ 6 ∷ 1 ∷ 1 ∷ 1 ∷ 1 ∷ 0 ∷ 9 ∷ []) (7 ∷ 1 ∷ [])
+    ∷ figure (sixGroups 1 0) (7 ∷ 1 ∷ [])
     ∷ []
 
 pub figures : map (λ (f : Figure). answers (verdictOf (f .sheet))) table ≡ map (λ (f : Figure). f .says) table
-unfolding verdictOf listingOf searched foundOf stepsOf listed pointsOf better answerAt bound waits tree top walk curve afterGroup groupWait server neutral joined ceil greatest catchUp leastWait remainder lateness delay total any crosses on bursts rates used from from-on groups grouped reads overlaps notNested crowded lowestCrowded tooMany tooLarge largeAt some largeNode largeCurve plan nodeOf nodeCurve along topOf tandemOf gridOf checkOf sheetOf stepOn ruleAt serverNumbers seenAfter numberAt
+unfolding verdictOf listingOf searched foundOf stepsOf listed pointsOf better answerAt bound waits tree top walk curve afterGroup groupWait server
+    neutral joined ceil greatest catchUp leastWait remainder lateness delay total any crosses on bursts rates used from from-on groups grouped reads
+    overlaps notNested crowded lowestCrowded tooMany tooLarge largeAt some largeNode largeCurve plan nodeOf nodeCurve along topOf tandemOf gridOf
+    checkOf sheetOf stepOn ruleAt serverNumbers seenAfter numberAt
 figures = refl

@@ -148,7 +148,8 @@ module _ (xs before : List ℕ) (r : ℕ) (after : List ℕ) (call : Written xs 
   pub write-accepts : r < 4294967296 → Valid xs × (r ≡ size) × (after ≡ encodeAll xs ++ drop size before)
   write-accepts h = by (listOf xs) refl
     where
-      by-room : listOf xs ≡ these xs → (length before < size) ⊎ (size ≤ length before) → Valid xs × (r ≡ size) × (after ≡ encodeAll xs ++ drop size before)
+      by-room : listOf xs ≡ these xs → (length before < size) ⊎ (size ≤ length before)
+          → Valid xs × (r ≡ size) × (after ≡ encodeAll xs ++ drop size before)
       by-room e (inl l) = absurd (omega (arith, write-short e l .0))
       by-room e (inr l) = (listed-valid xs xs e, omega (arith, write-whole e l .0), write-whole e l .1)
 

@@ -53,7 +53,8 @@ unfolding verdictOf total any crosses on rates used from from-on groups overlaps
 P10-refused = record { gives = refl; holds = refl }
 
 -- the reader and the writer: P7's thirteen numbers are its thirteen bytes; a list without g ends at 12
-pub P7-read : Read P7 (0 ∷ 0 ∷ 0 ∷ 0 ∷ 0 ∷ 0 ∷ 0 ∷ 0 ∷ 0 ∷ 0 ∷ 0 ∷ 0 ∷ 0 ∷ 9 ∷ []) 13 (1 ∷ 1 ∷ 10 ∷ 0 ∷ 1 ∷ 1 ∷ 1 ∷ 10 ∷ 6 ∷ 12 ∷ 4 ∷ 0 ∷ 4 ∷ 9 ∷ [])
+pub P7-read : Read P7 (0 ∷ 0 ∷ 0 ∷ 0 ∷ 0 ∷ 0 ∷ 0 ∷ 0 ∷ 0 ∷ 0 ∷ 0 ∷ 0 ∷ 0 ∷ 9 ∷ []) 13
+    (1 ∷ 1 ∷ 10 ∷ 0 ∷ 1 ∷ 1 ∷ 1 ∷ 10 ∷ 6 ∷ 12 ∷ 4 ∷ 0 ∷ 4 ∷ 9 ∷ [])
 unfolding sheetOf stepOn ruleAt serverNumbers seenAfter numberAt
 P7-read = record { gives = refl; holds = refl }
 

@@ -70,8 +70,8 @@ module _ (s xs : List ℕ) (read : sheetOf s ≡ these xs) where
 
 -- where a case holds, the entry gives and leaves what it says
 
-by-verdict : (s before : List ℕ) (r : ℕ) (after : List ℕ) (v : Verdict) → verdictOf s ≡ v → r ≡ answerGives v (length before) → after ≡ answerHolds v before
-    → Analysing s before r after
+by-verdict : (s before : List ℕ) (r : ℕ) (after : List ℕ) (v : Verdict) → verdictOf s ≡ v
+    → r ≡ answerGives v (length before) → after ≡ answerHolds v before → Analysing s before r after
 by-verdict s before r after v e g h = record {
   gives = g ∙ sym (ap (λ (v : Verdict). answerGives v (length before)) e);
   holds = h ∙ sym (ap (λ (v : Verdict). answerHolds v before) e);
@@ -122,7 +122,8 @@ module _ (s before : List ℕ) (r : ℕ) (after : List ℕ) (call : Analysing s 
   held-by : (v : Verdict) → verdictOf s ≡ v → after ≡ answerHolds v before
   held-by v e = call .holds ∙ ap (λ (v : Verdict). answerHolds v before) e
 
-  told-answer : (xs : List ℕ) → sheetOf s ≡ these xs → Passes xs → (length before < length (answerOf xs)) ⊎ (length (answerOf xs) ≤ length before) → Told s before r after
+  told-answer : (xs : List ℕ) → sheetOf s ≡ these xs → Passes xs
+      → (length before < length (answerOf xs)) ⊎ (length (answerOf xs) ≤ length before) → Told s before r after
   told-answer xs e p (inl l) =
       let v = answer-verdict s xs e p in
       let t = lt-ltb (length before) (length (answerOf xs)) l in
@@ -146,7 +147,8 @@ module _ (s before : List ℕ) (r : ℕ) (after : List ℕ) (call : Analysing s 
     abbrev row : Tandem
     row = tandemOf xs
 
-    told-points : (Crossed row → ⊥) → Uncrowded xs → (tooMany row (mode xs) (gridUsed xs) ≡ true) ⊎ (tooMany row (mode xs) (gridUsed xs) ≡ false) → Told s before r after
+    told-points : (Crossed row → ⊥) → Uncrowded xs
+        → (tooMany row (mode xs) (gridUsed xs) ≡ true) ⊎ (tooMany row (mode xs) (gridUsed xs) ≡ false) → Told s before r after
     told-points n u (inl t) =
         let m = too-many-points row (mode xs) (gridUsed xs) t in
         let v = eight-verdict s xs e n u m in
