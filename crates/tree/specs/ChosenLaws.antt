@@ -1,7 +1,7 @@
--- The search of an accepted row chooses its answer as demand 2 says.
+-- The search of an accepted row chooses its answer as demand 2 says, and no other answer is chosen so.
 -- Assumes nothing.
 use Prim.Native.Nat.{ℕ, zero, suc, _≤_}
-use mathlib.Core.Path.{_≡_, refl, sym, ap, subst}
+use mathlib.Core.Path.{_≡_, refl, sym, ap, _∙_, subst}
 use mathlib.Core.List.{List}
 use native.Mathlib.Omega.{arith}
 use lib.ListN.{length, replicate}
@@ -9,13 +9,14 @@ use Rattle.curves.specs.Slots.{Covers, Least}
 use Rattle.row.specs.Tandem.{Tandem, flow}
 use Rattle.row.specs.Groups.{groups}
 use Rattle.row.specs.Accepted.{Accepted}
-use Rattle.tree.specs.Grid.{Answer, foundOf}
+use Rattle.tree.specs.Grid.{stepsOf, pointsOf, Answer, foundOf}
+use Rattle.tree.specs.Searched.{First}
 use Rattle.tree.specs.Tree.{tree}
 use Rattle.tree.specs.Bound.{extraOf, answerAt, searched}
 use Rattle.tree.specs.Meaning.{meaning}
 use Rattle.tree.specs.Chosen.{Chosen, noExtras}
 use Rattle.tree.specs.MeaningLaws.{bound-is-least}
-use Rattle.tree.specs.GridLaws.{quick-is}
+use Rattle.tree.specs.GridLaws.{first-only, quick-is}
 use Rattle.tree.specs.SearchLaws.{searched-first}
 
 -- what stands at a point has the least delay that covers the watched flow's bucket
@@ -48,3 +49,20 @@ searched-chosen row ok (suc mode) g m h =
       quick = λ z. refl;
       least = least-there row ok (noExtras row) _ q;
     }
+
+-- demand 2 leaves one start, one bound and one list of waits
+pub chosen-only : (row : Tandem) (mode g start start′ : ℕ) (best best′ : Answer) → mode ≤ 1
+    → Chosen row mode g start best → Chosen row mode g start′ best′ → (start ≡ start′) × (best ≡ best′)
+chosen-only row mode g start start′ best best′ m c d = (same, by mode refl m)
+  where
+    same : start ≡ start′
+    same = c .begins ∙ sym (d .begins)
+
+    Firsts : ℕ → Answer → Type 0
+    Firsts s a = First (answerAt row) (pointsOf (stepsOf s g) (length (groups row))) a
+
+    by : (k : ℕ) → mode ≡ k → k ≤ 1 → best ≡ best′
+    by zero z m =
+        first-only (answerAt row) (pointsOf (stepsOf start g) (length (groups row))) best best′ (c .searches z .0) (subst (λ (s : ℕ). Firsts s best′) (sym same) (d .searches z .0))
+    by (suc zero) z m = c .there ∙ ap (answerAt row) (c .quick z ∙ sym (d .quick z)) ∙ sym (d .there)
+    by (suc (suc k)) z m = absurd (omega arith)
