@@ -6,6 +6,7 @@ use mathlib.Core.List.{List}
 use native.Mathlib.Omega.{arith}
 use lib.ListN.{length, replicate}
 use Rattle.curves.specs.Slots.{Covers, Least}
+use Rattle.curves.specs.SlotsLaws.{least-only}
 use Rattle.row.specs.Tandem.{Tandem, flow}
 use Rattle.row.specs.Groups.{groups}
 use Rattle.row.specs.Accepted.{Accepted}
@@ -66,3 +67,9 @@ chosen-only row mode g start start′ best best′ m c d = (same, by mode refl m
         first-only (answerAt row) (pointsOf (stepsOf start g) (length (groups row))) best best′ (c .searches z .0) (subst (λ (s : ℕ). Firsts s best′) (sym same) (d .searches z .0))
     by (suc zero) z m = c .there ∙ ap (answerAt row) (c .quick z ∙ sym (d .quick z)) ∙ sym (d .there)
     by (suc (suc k)) z m = absurd (omega arith)
+
+-- and the bound is the least number that covers the watched flow's bucket over what the nesting tree guarantees at the chosen point
+pub chosen-least : (row : Tandem) (mode g start : ℕ) (best : Answer) → (c : Chosen row mode g start best)
+    → (d : ℕ) → Least (Covers (meaning row (extraOf (c .point)) (tree row)) (flow row 0 .burst) (flow row 0 .rate)) d → best .delay ≡ d
+chosen-least row mode g start best c d l =
+    least-only (Covers (meaning row (extraOf (c .point)) (tree row)) (flow row 0 .burst) (flow row 0 .rate)) (best .delay) d (c .least) l

@@ -8,11 +8,11 @@ use mathlib.Core.List.{List, [], _∷_, _++_, map}
 use native.Mathlib.Omega.{arith}
 use lib.Dec.{ltb, eqb}
 use lib.ListN.{length, getD, replicate}
-use borrow.Author.Tests.{le-ltb, ltb-false, eq-eqb}
+use borrow.Author.Tests.{le-ltb, ltb-false, eq-eqb, eqb-true}
 use Rattle.curves.specs.Curve.{Shape, All, Rates, line, after, remainder, leastWait}
 use Rattle.curves.specs.Held.{Live, Leaves}
 use Rattle.curves.specs.HeldLaws.{leaves-after-wait}
-use Rattle.curves.specs.StageLaws.{all-map, all-both}
+use Rattle.curves.specs.StageLaws.{all-weaken, all-map, all-both}
 use Rattle.curves.specs.declared.Stage.{Stage}
 use Rattle.row.specs.declared.Server.{Server}
 use Rattle.row.specs.declared.Flow.{Flow}
@@ -160,6 +160,42 @@ not-too-large row mode g h = (small-at row (replicate n 0) (k .0), λ z. not-som
     turn : (b : Bool) → b ≡ true → cond b (some (largeAt row) points) false ≡ false → some (largeAt row) points ≡ false
     turn true e q = q
     turn false e q = absurd (true≢false (sym e))
+
+-- and back: where none of them passes it, the row is not refused by 9
+
+curve-small : (c : Shape) → SmallCurve c → largeCurve c ≡ false
+curve-small c h =
+    light-curve c (omega (arith, h .offset))
+    (all-weaken (λ s. (s .burst ≤ 2 ^ 63 - 1) × (s .rate ≤ 2 ^ 63 - 1)) Light (c .stages) (λ s k. record { burst = omega (arith, k .0); rate = omega (arith, k .1) }) (h .stages))
+
+node-small : (n : Node) → SmallNode n → largeNode n ≡ false
+unfolding largeNode
+node-small n h =
+    neither (largeCurve (n .curve)) (large (n .wait) || largeCurve (n .left)) (curve-small (n .curve) (h .curve))
+    (neither (large (n .wait)) (largeCurve (n .left)) (small-one (n .wait) (omega (arith, h .wait))) (curve-small (n .left) (h .left)))
+
+at-small : (row : Tandem) (es : List ℕ) → SmallAt row es → largeAt row es ≡ false
+unfolding largeAt
+at-small row es h =
+    neither (some largeNode (plan (row .servers) (reads row) (0 ∷ es))) (large (answerAt row es .delay))
+    (none-each SmallNode largeNode (plan (row .servers) (reads row) (0 ∷ es)) node-small (h .nodes)) (small-one (answerAt row es .delay) (omega (arith, h .delay)))
+
+pub small-passes : (row : Tandem) (mode g : ℕ) → SmallAt row (replicate (length (groups row)) 0)
+    → (mode ≡ 0 → Each (SmallAt row) (pointsOf (stepsOf (answerAt row (replicate (length (groups row)) 0) .delay) g) (length (groups row))))
+    → tooLarge row mode g ≡ false
+unfolding tooLarge
+small-passes row mode g h k =
+    neither (largeAt row (replicate n 0)) (cond (eqb mode 0) (some (largeAt row) points) false) (at-small row (replicate n 0) h) (by (eqb mode 0) refl)
+  where
+    n : ℕ
+    n = length (groups row)
+
+    points : List (List ℕ)
+    points = pointsOf (stepsOf (answerAt row (replicate n 0) .delay) g) n
+
+    by : (b : Bool) → eqb mode 0 ≡ b → cond b (some (largeAt row) points) false ≡ false
+    by true e = none-each (SmallAt row) (largeAt row) points (at-small row) (k (eqb-true mode 0 e))
+    by false e = refl
 
 module _ (row : Tandem) (ok : Accepted row) (limits : Limits row) where
   none-at : (es : List ℕ) → ((k : ℕ) → getD es k 0 < 2 ^ 30) → largeAt row es ≡ false
