@@ -1,11 +1,13 @@
 -- Worked examples of the seven-bit number, computed from the definitions.
 -- Assumes nothing.
-use Prim.Native.Nat.{ℕ}
+use Prim.Native.Nat.{ℕ, zero, suc, _<_}
 use mathlib.Core.Path.{_≡_, refl}
 use mathlib.Core.List.{List, [], _∷_, map}
+use native.Mathlib.Omega.{arith}
 use Rattle.numbers.specs.declared.Got.{Got}
 use Rattle.numbers.specs.declared.Got.the-variants.{Number, Ends, Padded, Large}
 use Rattle.numbers.specs.Seven.{numberAt, encode}
+use Rattle.numbers.specs.SevenLaws.{Bytes}
 
 -- "300 is bytes 172, 2."
 pub three-hundred : (encode 300 ≡ 172 ∷ 2 ∷ []) × (numberAt (172 ∷ 2 ∷ []) 0 ≡ Number 300 2)
@@ -46,3 +48,8 @@ table =
 pub table-read : map (λ (e : Example). numberAt (e .bytes) 0) table ≡ map (λ (e : Example). e .says) table
 unfolding numberAt
 table-read = refl
+
+-- what the laws ask of a list of bytes holds of every byte
+pub bytes-met : (b : ℕ) → b < 256 → Bytes (b ∷ [])
+bytes-met b h zero = h
+bytes-met b h (suc i) = omega arith

@@ -1,9 +1,10 @@
 -- Worked examples, computed from the definitions: sheets good and damaged; the greatest sheet, which reaches both limits; and the ends of every
 -- range.
 -- Assumes nothing.
-use Prim.Native.Nat.{ℕ, zero, suc}
+use Prim.Native.Nat.{ℕ, zero, suc, _^_, _<_}
 use mathlib.Core.Path.{_≡_, refl}
 use mathlib.Core.List.{List, [], _∷_, _++_, map}
+use native.Mathlib.Omega.{arith}
 use lib.ListN.{length, take, drop}
 use Rattle.numbers.specs.Seven.{encode, numberAt}
 use Rattle.sheet.specs.declared.Outcome.{Outcome}
@@ -13,6 +14,7 @@ use Rattle.sheet.specs.Refusal.{refusal, number, detail}
 use Rattle.sheet.specs.Sheet.{Found, fail, these, stepOn, sheetOf, listOf, encodeAll, readGives, readHolds, writeGives, writeHolds}
 use Rattle.sheet.specs.Valid.{Valid}
 use Rattle.sheet.specs.ValidLaws.{listed-valid}
+use Rattle.sheet.specs.TripLaws.{Words}
 
 -- "300 is bytes 172, 2."
 pub three-hundred : encode 300 ≡ 172 ∷ 2 ∷ []
@@ -100,6 +102,11 @@ buffers = (refl, refl, refl, refl, refl, refl, refl, refl)
 pub P7-valid : Valid P7
 unfolding listOf stepOn ruleAt seenAfter serverNumbers
 P7-valid = listed-valid P7 P7 refl
+
+-- "a list of numbers in sheet order, each below 2^32": what the round trips ask of a list holds of every such number
+pub words-met : (x : ℕ) → x < 2 ^ 32 → Words (x ∷ [])
+words-met x h zero = omega arith
+words-met x h (suc i) = omega arith
 
 -- The greatest sheet: 16 servers and 48 flows, every number at the top of its range.
 abbrev times : ℕ → List ℕ → List ℕ
