@@ -4,7 +4,7 @@ use mathlib.Core.Path.{_≡_, refl}
 use mathlib.Core.List.{List, [], _∷_, map}
 use Prim.Native.Nat.{ℕ, zero, suc, _+_}
 use native.Mathlib.Omega.{arith}
-use Rattle.curves.specs.Slots.{serve, lowest, conv, zeroUpTo, left, Covers, Least}
+use Rattle.curves.specs.Slots.{bucket, serve, lowest, conv, zeroUpTo, left, Covers, Least}
 use Rattle.curves.specs.Curve.{Shape, leastLine, valueAt, server, joined, ceil, greatest, catchUp, leastWait, remainder, lateness, delay}
 use Rattle.curves.specs.CurveLaws.{value-before, value-after}
 use Rattle.curves.specs.JoinLaws.{join-is-conv}
@@ -39,6 +39,18 @@ figures = (refl, refl, refl, refl, refl, refl, refl, refl, refl, refl)
 
 abbrev slots : List ℕ
 slots = 0 ∷ 1 ∷ 2 ∷ 3 ∷ 4 ∷ 5 ∷ []
+
+-- "A token bucket (σ, ρ) allows 0 bytes over 0 slots and σ + ρ·t over t ≥ 1 slots."; "A server (R, T) guarantees β(t) = R·max(0, t − T)."; "0 for t ≤ D,
+-- otherwise the least of b + r·(t − D)", with offset 2 and two stages; "0 for t ≤ θ, else max(0, curve(t) − σ − ρ·(t − θ))", where the group takes more
+-- than there is at first, and where it takes less than there is at θ
+pub each-slot :
+    (map (bucket 5 3) slots ≡ 0 ∷ 8 ∷ 11 ∷ 14 ∷ 17 ∷ 20 ∷ [])
+    × (map (serve 10 2) slots ≡ 0 ∷ 0 ∷ 0 ∷ 10 ∷ 20 ∷ 30 ∷ [])
+    × (map (valueAt (record { offset = 2; stages = record { burst = 7; rate = 1 } ∷ record { burst = 4; rate = 3 } ∷ [] })) slots ≡ 0 ∷ 0 ∷ 0 ∷ 7 ∷ 9 ∷ 10 ∷ [])
+    × (map (left (serve 10 0) 25 2 1) slots ≡ 0 ∷ 0 ∷ 0 ∷ 1 ∷ 9 ∷ 17 ∷ [])
+    × (map (left (serve 10 0) 5 2 3) slots ≡ 0 ∷ 0 ∷ 0 ∷ 0 ∷ 33 ∷ 41 ∷ [])
+unfolding bucket serve valueAt leastLine zeroUpTo left
+each-slot = (refl, refl, refl, refl, refl)
 
 -- P5's curve after its group, and a join, slot by slot: the closed forms and the functions of slots give the same numbers
 pub slot-by-slot :

@@ -1,4 +1,4 @@
--- Laws of the least of finitely many numbers, and of a function that is 0 up to a slot.
+-- Laws of the least of finitely many numbers, of a function that is 0 up to a slot, and of the least number with a property.
 -- Assumes nothing.
 use mathlib.Core.Path.{_≡_}
 use mathlib.Core.Logic.{_⊎_, inl, inr}
@@ -7,7 +7,7 @@ use native.Mathlib.Nat.{lt-of-not-le}
 use native.Mathlib.Decide.{decLe}
 use native.Mathlib.Omega.{arith}
 use borrow.Author.Tests.{le-leb, lt-leb}
-use Rattle.curves.specs.Slots.{lowest, zeroUpTo}
+use Rattle.curves.specs.Slots.{lowest, zeroUpTo, Least}
 
 -- two numbers stand in one order or the other
 pub le-or-lt : (m n : ℕ) → (m ≤ n) ⊎ (n < m)
@@ -38,3 +38,7 @@ zero-before D t v h = rw (le-leb t D h)
 pub zero-after : (D t v : ℕ) → D < t → zeroUpTo D t v ≡ v
 unfolding zeroUpTo
 zero-after D t v h = rw (lt-leb t D h)
+
+-- "the least d such that": there is no other
+pub least-unique : (P : ℕ → Type 0) (d e : ℕ) → Least P d → Least P e → d ≡ e
+least-unique P d e h k = omega (arith, h .least e (k .holds), k .least d (h .holds))

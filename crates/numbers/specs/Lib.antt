@@ -1,3 +1,4 @@
 pub mod Seven
 pub mod SevenLaws
 pub mod Unique
+pub mod Figures

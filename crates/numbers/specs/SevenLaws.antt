@@ -77,6 +77,22 @@ pub encode-few : (x : ℕ) → length (encode x) ≤ 5
 unfolding encode
 encode-few x = groups-few 5 x
 
+-- "groups of seven bits, lowest first; a set top bit says that another group follows": a number below 128 is one group; any other has its lowest
+-- seven bits in front, with the top bit set, and behind them the bytes of what is left of it.
+
+pub one-group : (x : ℕ) → x < 128 → encode x ≡ x ∷ []
+unfolding encode
+one-group x h = groups-last 4 x h
+
+groups-enough : (n x : ℕ) → x < 128 ^ suc n → groups (suc n) x ≡ groups (suc (suc n)) x
+groups-enough zero x h = let l : x < 128 = omega arith in rw (lt-ltb x 128 l)
+groups-enough (suc n) x h =
+    ⊎-elim (λ l. rw (lt-ltb x 128 l)) (λ g. rw (groups-more (suc n) x g, groups-more (suc (suc n)) x g, groups-enough n (x / 128) (below-power (suc n) x h))) (lt-or-ge x 128)
+
+pub lowest-first : (x : ℕ) → 128 ≤ x → x < 4294967296 → encode x ≡ (x % 128 + 128) ∷ encode (x / 128)
+unfolding encode
+lowest-first x g h = groups-more 4 x g ∙ ap (λ (l : List ℕ). (x % 128 + 128) ∷ l) (groups-enough 3 (x / 128) (below-power 4 x (omega arith)))
+
 -- What was written is read back.
 
 -- the last of at most n groups of x

@@ -1,19 +1,21 @@
--- Rows of document 01's table: P7 passes and has one group, P9 is refused by 6, P10 by 7 at server 1. And a sheet alike to P7's, whose one group is
--- two flows.
+-- Rows of document 01's table: P7 passes and has one group, P9 is refused by 6, P10 by 7 at server 1. Rows around the limits of each check, and the
+-- groups of a row in order. And a sheet alike to P7's, whose one group is two flows.
 -- Assumes nothing.
 use mathlib.Core.Path.{_≡_, refl}
-use mathlib.Core.List.{List, [], _∷_}
+use mathlib.Core.List.{List, [], _∷_, _++_, map}
 use mathlib.Core.Bool.{Bool, true, false, _||_, _&&_}
-use Prim.Native.Nat.{ℕ, _+_}
+use Prim.Native.Nat.{ℕ, zero, suc, _+_}
 use native.Mathlib.Omega.{arith}
 use lib.Dec.{eqb}
-use lib.ListN.{replicate}
+use lib.ListN.{length, replicate}
 use Rattle.sheet.specs.Rule.{ruleAt, serverNumbers, seenAfter}
 use Rattle.sheet.specs.Sheet.{listOf, stepOn}
 use Rattle.sheet.specs.Valid.{Valid}
 use Rattle.sheet.specs.ValidLaws.{listed-valid}
 use Rattle.row.specs.declared.Row.{Row}
-use Rattle.row.specs.declared.Check.the-variants.{Passed, Crossing, Crowded}
+use Rattle.row.specs.declared.Flow.{Flow}
+use Rattle.row.specs.declared.Check.{Check}
+use Rattle.row.specs.declared.Check.the-variants.{Passed, Crossing, Crowded, Points}
 use Rattle.row.specs.Sums.{weigh, total, any}
 use Rattle.row.specs.Tandem.{crosses, on, bursts, rates}
 use Rattle.row.specs.Groups.{used, from, from-on, groups, grouped, reads}
@@ -68,6 +70,104 @@ pub figures :
     × (formedOf sheet10 ≡ record { check = Crowded 1; row = noRow })
 unfolding total any crosses on bursts rates used from from-on groups grouped reads overlaps notNested crowded lowestCrowded tooMany listed tandemOf gridOf rowOf checkOf formedOf
 figures = (refl, refl, refl)
+
+-- Rows with latencies 0 and bursts 1: the servers' rates, and of each cross flow its path and rate.
+pub record Cross : Type 0 where
+  pub first : ℕ
+  pub last : ℕ
+  pub rate : ℕ
+
+abbrev crossing : ℕ → ℕ → ℕ → Cross
+crossing i l ρ = record { first = i; last = l; rate = ρ }
+
+abbrev serversOf : List ℕ → List ℕ
+serversOf [] = []
+serversOf (R ∷ l) = R ∷ 0 ∷ serversOf l
+
+abbrev flowsOf : List Cross → List ℕ
+flowsOf [] = []
+flowsOf (c ∷ l) = c .first ∷ c .last ∷ 1 ∷ c .rate ∷ flowsOf l
+
+abbrev rowWith : List ℕ → List Cross → ℕ → ℕ → ℕ → List ℕ
+rowWith Rs cs ρ mode g = 1 ∷ length Rs ∷ serversOf Rs ++ (length cs ∷ flowsOf cs) ++ (1 ∷ ρ ∷ mode ∷ g ∷ [])
+
+-- a group at each of servers 1 to n, behind others
+abbrev atEach : ℕ → List Cross → List Cross
+atEach zero l = l
+atEach (suc n) l = atEach n (crossing (suc n) (suc n) 1 ∷ l)
+
+pub record Judged : Type 0 where
+  pub sheet : List ℕ
+  pub says : Check
+
+abbrev judged : List ℕ → Check → Judged
+judged s c = record { sheet = s; says = c }
+
+abbrev tens : ℕ → List ℕ
+tens n = replicate n 10
+
+abbrev pub rows : List Judged
+rows =
+    -- 6: i < h ≤ j < k, in either order in the sheet; paths that share no server, one path inside another, with or without its first or last server,
+    -- and equal paths do not cross
+    judged (rowWith (tens 4) (crossing 1 3 1 ∷ crossing 2 4 1 ∷ []) 1 0 3) Crossing
+    ∷ judged (rowWith (tens 4) (crossing 3 4 1 ∷ crossing 1 1 1 ∷ crossing 1 3 1 ∷ []) 1 0 3) Crossing
+    ∷ judged (rowWith (tens 4) (crossing 1 2 1 ∷ crossing 3 4 1 ∷ []) 1 0 3) Passed
+    ∷ judged (rowWith (tens 4) (crossing 1 4 1 ∷ crossing 2 3 1 ∷ crossing 1 3 1 ∷ crossing 1 1 1 ∷ crossing 4 4 1 ∷ []) 1 0 3) Passed
+    ∷ judged (rowWith (tens 4) (crossing 2 3 1 ∷ crossing 2 3 1 ∷ crossing 3 3 1 ∷ []) 1 0 3) Passed
+    -- 7: "R 10, rates 6 and 4 | accepted"; at each server the rates of the flows that cross it, from the first server to the last; "lowest such server"
+    ∷ judged (rowWith (tens 1) (crossing 1 1 6 ∷ []) 4 0 3) Passed
+    ∷ judged (rowWith (tens 2) (crossing 1 1 6 ∷ crossing 2 2 6 ∷ []) 4 0 3) Passed
+    ∷ judged (rowWith (tens 2) (crossing 1 1 6 ∷ crossing 2 2 7 ∷ []) 4 0 3) (Crowded 2)
+    ∷ judged (rowWith (10 ∷ 20 ∷ 20 ∷ 10 ∷ []) (crossing 2 3 16 ∷ []) 4 0 3) Passed
+    ∷ judged (rowWith (10 ∷ 19 ∷ 20 ∷ 10 ∷ []) (crossing 2 3 16 ∷ []) 4 0 3) (Crowded 2)
+    ∷ judged (rowWith (10 ∷ 20 ∷ 19 ∷ 10 ∷ []) (crossing 2 3 16 ∷ []) 4 0 3) (Crowded 3)
+    ∷ judged (rowWith (10 ∷ 19 ∷ 19 ∷ 3 ∷ []) (crossing 2 3 16 ∷ []) 4 0 3) (Crowded 2)
+    -- 8: "g 9, five groups: 59,049 points | accepted", "g 9, six groups | 8, detail 6", "g 2, sixteen groups; seventeen | accepted; 8"; six flows on
+    -- five paths are five groups
+    ∷ judged (rowWith (tens 5) (atEach 5 []) 1 0 9) Passed
+    ∷ judged (rowWith (tens 5) (atEach 5 (crossing 5 5 1 ∷ [])) 1 0 9) Passed
+    ∷ judged (rowWith (tens 6) (atEach 6 []) 1 0 9) (Points 6)
+    ∷ judged (rowWith (tens 6) (atEach 6 []) 1 1 9) Passed
+    ∷ judged (rowWith (tens 16) (atEach 16 []) 1 0 2) Passed
+    ∷ judged (rowWith (tens 16) (atEach 16 (crossing 1 16 1 ∷ [])) 1 0 2) (Points 17)
+    -- 4^8 is 65,536; and 0 means 3: 3^10 is 59,049, 3^11 is 177,147
+    ∷ judged (rowWith (tens 8) (atEach 8 []) 1 0 4) Passed
+    ∷ judged (rowWith (tens 9) (atEach 9 []) 1 0 4) (Points 9)
+    ∷ judged (rowWith (tens 10) (atEach 10 []) 1 0 0) Passed
+    ∷ judged (rowWith (tens 11) (atEach 11 []) 1 0 0) (Points 11)
+    ∷ []
+
+pub rows-judged : map (λ (r : Judged). checkOf (r .sheet)) rows ≡ map (λ (r : Judged). r .says) rows
+unfolding total any crosses on bursts rates used from from-on groups overlaps notNested crowded lowestCrowded tooMany listed tandemOf gridOf checkOf
+rows-judged = refl
+
+-- "above 65,536": the number itself is not, and the next is; "mode 0"
+pub points-limit :
+    (tooMany (tandemOf sheet7) 0 65536 ≡ false) × (tooMany (tandemOf sheet7) 0 65537 ≡ true) × (tooMany (tandemOf sheet7) 1 65537 ≡ false)
+unfolding any on used from from-on groups tooMany listed tandemOf
+points-limit = (refl, refl, refl)
+
+-- "Cross flows with one path form one group; bursts and rates add up. Groups stand in order of first server, then longer path first. A path equal to
+-- the watched flow's is a group": flows on (3,3), (1,2), (2,2), (1,3), (1,2), (1,1), and what the analysis reads of them, behind the watched flow
+abbrev mixed : List ℕ
+mixed =
+    1 ∷ 3 ∷ 50 ∷ 1 ∷ 60 ∷ 2 ∷ 70 ∷ 3
+    ∷ 6 ∷ 3 ∷ 3 ∷ 10 ∷ 1 ∷ 1 ∷ 2 ∷ 20 ∷ 2 ∷ 2 ∷ 2 ∷ 30 ∷ 3 ∷ 1 ∷ 3 ∷ 40 ∷ 4 ∷ 1 ∷ 2 ∷ 50 ∷ 5 ∷ 1 ∷ 1 ∷ 60 ∷ 6
+    ∷ 70 ∷ 7 ∷ 1 ∷ 0 ∷ []
+
+abbrev flowed : ℕ → ℕ → ℕ → ℕ → Flow
+flowed i l σ ρ = record { first = i; last = l; burst = σ; rate = ρ }
+
+pub mixed-reads : reads (tandemOf mixed) ≡ flowed 1 3 70 7 ∷ flowed 1 3 40 4 ∷ flowed 1 2 70 7 ∷ flowed 1 1 60 6 ∷ flowed 2 2 30 3 ∷ flowed 3 3 10 1 ∷ []
+unfolding total any on bursts rates used from from-on groups grouped reads listed tandemOf
+mixed-reads = refl
+
+-- "g | 0 or 2..9; 0 means 3", and the servers in order
+pub mixed-row : (formedOf mixed .row .grid ≡ 3) × (formedOf mixed .row .mode ≡ 1) × (formedOf mixed .row .count ≡ 6)
+    × (formedOf mixed .row .servers ≡ record { rate = 50; latency = 1 } ∷ record { rate = 60; latency = 2 } ∷ record { rate = 70; latency = 3 } ∷ replicate 13 (record { rate = 0; latency = 0 }))
+unfolding total any crosses on bursts rates used from from-on groups grouped reads overlaps notNested crowded lowestCrowded tooMany listed tandemOf gridOf rowOf checkOf formedOf
+mixed-row = (refl, refl, refl, refl)
 
 -- P7 with its cross flow in two parts
 abbrev pub split7 : List ℕ

@@ -1,16 +1,20 @@
 -- Worked examples, computed from the definitions: sheets good and damaged; the greatest sheet, which reaches both limits; and the ends of every
 -- range.
 -- Assumes nothing.
-use Prim.Native.Nat.{ℕ, zero, suc}
+use Prim.Native.Nat.{ℕ, zero, suc, _^_, _<_}
 use mathlib.Core.Path.{_≡_, refl}
 use mathlib.Core.List.{List, [], _∷_, _++_, map}
+use native.Mathlib.Omega.{arith}
 use lib.ListN.{length, take, drop}
 use Rattle.numbers.specs.Seven.{encode, numberAt}
-use Rattle.sheet.specs.Rule.{serverNumbers, ruleAt, seenAfter}
-use Rattle.sheet.specs.Refusal.{refusal}
-use Rattle.sheet.specs.Sheet.{Found, fail, these, stepOn, sheetOf, listOf, encodeAll}
+use Rattle.sheet.specs.declared.Outcome.{Outcome}
+use Rattle.sheet.specs.declared.Why.the-variants.{Left}
+use Rattle.sheet.specs.Rule.{most, serverNumbers, ruleAt, seenAfter}
+use Rattle.sheet.specs.Refusal.{refusal, number, detail}
+use Rattle.sheet.specs.Sheet.{Found, fail, these, stepOn, sheetOf, listOf, encodeAll, readGives, readHolds, writeGives, writeHolds}
 use Rattle.sheet.specs.Valid.{Valid}
 use Rattle.sheet.specs.ValidLaws.{listed-valid}
+use Rattle.sheet.specs.TripLaws.{Words}
 
 -- "300 is bytes 172, 2."
 pub three-hundred : encode 300 ≡ 172 ∷ 2 ∷ []
@@ -57,10 +61,52 @@ pub table-read : map (λ (e : Example). answers (sheetOf (e .bytes))) table ≡ 
 unfolding sheetOf stepOn ruleAt seenAfter serverNumbers numberAt
 table-read = refl
 
+-- the writer's: "the bytes (writer: the numbers) end before the last field does", "bytes (numbers) left over"; its "offsets count numbers"
+pub lists-written :
+    (answers (listOf P7) ≡ 0 ∷ P7)
+    × (answers (listOf []) ≡ 1 ∷ 0 ∷ [])
+    × (answers (listOf (take 12 P7)) ≡ 1 ∷ 12 ∷ [])
+    × (answers (listOf (P7 ++ (9 ∷ 9 ∷ []))) ≡ 3 ∷ 13 ∷ [])
+    × (answers (listOf (1 ∷ 1 ∷ 300 ∷ 0 ∷ 1 ∷ 2 ∷ [])) ≡ 5 ∷ 5 ∷ [])
+unfolding listOf stepOn ruleAt seenAfter serverNumbers
+lists-written = (refl, refl, refl, refl, refl)
+
+-- "10 | the buffer is too short | length needed": one entry short, and just long enough; a refusal of the sheet comes before it
+abbrev told : Outcome → List ℕ
+told o = number o ∷ detail o ∷ []
+
+pub rooms :
+    (told (readGives (these P7) 12) ≡ 10 ∷ 13 ∷ [])
+    × (told (readGives (these P7) 13) ≡ 0 ∷ 13 ∷ [])
+    × (told (readGives (fail Left 13) 0) ≡ 3 ∷ 13 ∷ [])
+    × (told (writeGives (these (300 ∷ 7 ∷ [])) 2) ≡ 10 ∷ 3 ∷ [])
+    × (told (writeGives (these (300 ∷ 7 ∷ [])) 3) ≡ 0 ∷ 3 ∷ [])
+    × (told (writeGives (fail Left 13) 0) ≡ 3 ∷ 13 ∷ [])
+unfolding encode
+rooms = (refl, refl, refl, refl, refl, refl)
+
+-- "entries past them stay"; "bytes past the length stay"; "On refusal the buffer stays as it was."
+pub buffers :
+    (readHolds (these (300 ∷ 7 ∷ [])) (1 ∷ 2 ∷ 3 ∷ 4 ∷ []) ≡ 300 ∷ 7 ∷ 3 ∷ 4 ∷ [])
+    × (readHolds (these (300 ∷ 7 ∷ [])) (1 ∷ 2 ∷ []) ≡ 300 ∷ 7 ∷ [])
+    × (readHolds (these (300 ∷ 7 ∷ [])) (1 ∷ []) ≡ 1 ∷ [])
+    × (readHolds (fail Left 13) (1 ∷ 2 ∷ []) ≡ 1 ∷ 2 ∷ [])
+    × (writeHolds (these (300 ∷ 7 ∷ [])) (1 ∷ 2 ∷ 3 ∷ 4 ∷ []) ≡ 172 ∷ 2 ∷ 7 ∷ 4 ∷ [])
+    × (writeHolds (these (300 ∷ 7 ∷ [])) (1 ∷ 2 ∷ 3 ∷ []) ≡ 172 ∷ 2 ∷ 7 ∷ [])
+    × (writeHolds (these (300 ∷ 7 ∷ [])) (1 ∷ 2 ∷ []) ≡ 1 ∷ 2 ∷ [])
+    × (writeHolds (fail Left 13) (1 ∷ 2 ∷ []) ≡ 1 ∷ 2 ∷ [])
+unfolding encode
+buffers = (refl, refl, refl, refl, refl, refl, refl, refl)
+
 -- so there are valid lists
 pub P7-valid : Valid P7
 unfolding listOf stepOn ruleAt seenAfter serverNumbers
 P7-valid = listed-valid P7 P7 refl
+
+-- "a list of numbers in sheet order, each below 2^32": what the round trips ask of a list holds of every such number
+pub words-met : (x : ℕ) → x < 2 ^ 32 → Words (x ∷ [])
+words-met x h zero = omega arith
+words-met x h (suc i) = omega arith
 
 -- The greatest sheet: 16 servers and 48 flows, every number at the top of its range.
 abbrev times : ℕ → List ℕ → List ℕ
@@ -70,8 +116,8 @@ times (suc n) l = l ++ times n l
 abbrev pub greatest : List ℕ
 greatest = 1 ∷ 16 ∷ times 16 (1000000 ∷ 1000 ∷ []) ++ (48 ∷ times 48 (16 ∷ 16 ∷ 65535 ∷ 65535 ∷ [])) ++ (65535 ∷ 65535 ∷ 1 ∷ 9 ∷ [])
 
-pub greatest-count : length greatest ≡ 231
-greatest-count = refl
+pub greatest-count : (length greatest ≡ 231) × (most ≡ 231)
+greatest-count = (refl, refl)
 
 pub greatest-bytes : length (encodeAll greatest) ≡ 475
 unfolding encode

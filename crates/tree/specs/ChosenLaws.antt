@@ -1,22 +1,23 @@
--- The search of an accepted row chooses its answer as demand 2 says; and what demand 2 says leaves one start and one answer.
+-- The search of an accepted row chooses its answer as demand 2 says, and no other answer is chosen so.
 -- Assumes nothing.
-use Prim.Native.Nat.{ℕ, zero, suc, _≤_, _<_}
+use Prim.Native.Nat.{ℕ, zero, suc, _≤_}
 use mathlib.Core.Path.{_≡_, refl, sym, ap, _∙_, subst}
-use mathlib.Core.List.{List, [], _∷_, _++_}
+use mathlib.Core.List.{List}
 use native.Mathlib.Omega.{arith}
 use lib.ListN.{length, replicate}
 use Rattle.curves.specs.Slots.{Covers, Least}
+use Rattle.curves.specs.SlotsLaws.{least-unique}
 use Rattle.row.specs.Tandem.{Tandem, flow}
 use Rattle.row.specs.Groups.{groups}
 use Rattle.row.specs.Accepted.{Accepted}
 use Rattle.tree.specs.Grid.{stepsOf, pointsOf, Answer, foundOf}
-use Rattle.tree.specs.Searched.{Each, First}
+use Rattle.tree.specs.Searched.{First}
 use Rattle.tree.specs.Tree.{tree}
 use Rattle.tree.specs.Bound.{extraOf, answerAt, searched}
 use Rattle.tree.specs.Meaning.{meaning}
 use Rattle.tree.specs.Chosen.{Chosen, noExtras}
 use Rattle.tree.specs.MeaningLaws.{bound-is-least}
-use Rattle.tree.specs.GridLaws.{each-append, each-map, each-in, quick-is}
+use Rattle.tree.specs.GridLaws.{first-unique, quick-is}
 use Rattle.tree.specs.SearchLaws.{searched-first}
 
 -- what stands at a point has the least delay that covers the watched flow's bucket
@@ -50,44 +51,25 @@ searched-chosen row ok (suc mode) g m h =
       least = least-there row ok (noExtras row) _ q;
     }
 
--- one answer is the first of the points with the least delay
+-- demand 2 leaves one start, one bound and one list of waits
+pub chosen-unique : (row : Tandem) (mode g start start′ : ℕ) (best best′ : Answer) → mode ≤ 1
+    → Chosen row mode g start best → Chosen row mode g start′ best′ → (start ≡ start′) × (best ≡ best′)
+chosen-unique row mode g start start′ best best′ m c d = (same, by mode refl m)
+  where
+    same : start ≡ start′
+    same = c .begins ∙ sym (d .begins)
 
-point-delay : (at : List ℕ → Answer) (best : Answer) (point : List ℕ) → best ≡ at point → at point .delay ≡ best .delay
-point-delay at best point e = sym (ap (λ (a : Answer). a .delay) e)
+    Firsts : ℕ → Answer → Type 0
+    Firsts s a = First (answerAt row) (pointsOf (stepsOf s g) (length (groups row))) a
 
-least-all : (at : List ℕ → Answer) (points : List (List ℕ)) (best : Answer) → First at points best → Each (λ p. best .delay ≤ at p .delay) points
-least-all at points best f =
-    subst (Each (λ p. best .delay ≤ at p .delay)) (sym (f .split))
-    (each-append (λ p. best .delay ≤ at p .delay) (f .before) (f .point ∷ f .behind)
-    (each-map (λ p. best .delay < at p .delay) (λ p. best .delay ≤ at p .delay) (f .before) (λ p l. omega arith) (f .greater))
-    (omega (arith, point-delay at best (f .point) (f .there)), f .least))
+    by : (k : ℕ) → mode ≡ k → k ≤ 1 → best ≡ best′
+    by zero z m =
+        first-unique (answerAt row) (pointsOf (stepsOf start g) (length (groups row))) best best′ (c .searches z .0) (subst (λ (s : ℕ). Firsts s best′) (sym same) (d .searches z .0))
+    by (suc zero) z m = c .there ∙ ap (answerAt row) (c .quick z ∙ sym (d .quick z)) ∙ sym (d .there)
+    by (suc (suc k)) z m = absurd (omega arith)
 
-least-at : (at : List ℕ → Answer) (points : List (List ℕ)) (a b : Answer) → First at points a → First at points b → a .delay ≤ b .delay
-least-at at points a b f g =
-    let all = subst (Each (λ p. a .delay ≤ at p .delay)) (g .split) (least-all at points a f) in
-    omega (arith, each-in (λ p. a .delay ≤ at p .delay) (g .before) (g .point) (g .behind) all, point-delay at b (g .point) (g .there))
-
-same-point : (at : List ℕ → Answer) (d : ℕ) (l m : List (List ℕ)) (p q : List ℕ) (x y : List (List ℕ)) → l ++ (p ∷ x) ≡ m ++ (q ∷ y)
-    → Each (λ p. d < at p .delay) l → Each (λ p. d < at p .delay) m → at p .delay ≡ d → at q .delay ≡ d → p ≡ q
-same-point at d [] [] p q x y e a b h k = cc
-same-point at d [] (r ∷ m) p q x y e a b h k = let z : p ≡ r = cc in absurd (omega (arith, b .0, ap (λ (p : List ℕ). at p .delay) z, h))
-same-point at d (r ∷ l) [] p q x y e a b h k = let z : r ≡ q = cc in absurd (omega (arith, a .0, ap (λ (p : List ℕ). at p .delay) z, k))
-same-point at d (r ∷ l) (t ∷ m) p q x y e a b h k = let z : l ++ (p ∷ x) ≡ m ++ (q ∷ y) = cc in same-point at d l m p q x y z (a .1) (b .1) h k
-
-pub first-unique : (at : List ℕ → Answer) (points : List (List ℕ)) (a b : Answer) → First at points a → First at points b → a ≡ b
-first-unique at points a b f g =
-    let d : b .delay ≡ a .delay = omega (arith, least-at at points a b f g, least-at at points b a g f) in
-    let h = subst (λ (d : ℕ). Each (λ p. d < at p .delay) (g .before)) d (g .greater) in
-    let same =
-    same-point at (a .delay) (f .before) (g .before) (f .point) (g .point) (f .behind) (g .behind) (sym (f .split) ∙ g .split) (f .greater) h
-    (point-delay at a (f .point) (f .there)) (point-delay at b (g .point) (g .there) ∙ d) in
-    f .there ∙ ap at same ∙ sym (g .there)
-
-pub chosen-unique : (row : Tandem) (mode g s t : ℕ) (a b : Answer) → mode ≤ 1 → Chosen row mode g s a → Chosen row mode g t b → (s ≡ t) × (a ≡ b)
-chosen-unique row zero g s t a b m f h =
-    let e : t ≡ s = h .begins ∙ sym (f .begins) in
-    let k = subst (λ (s : ℕ). First (answerAt row) (pointsOf (stepsOf s g) (length (groups row))) b) e (h .searches refl .0) in
-    (sym e, first-unique (answerAt row) (pointsOf (stepsOf s g) (length (groups row))) a b (f .searches refl .0) k)
-chosen-unique row (suc mode) g s t a b m f h =
-    let one : suc mode ≡ 1 = omega arith in
-    (f .begins ∙ sym (h .begins), f .there ∙ ap (answerAt row) (f .quick one ∙ sym (h .quick one)) ∙ sym (h .there))
+-- and the bound is the least number that covers the watched flow's bucket over what the nesting tree guarantees at the chosen point
+pub chosen-least : (row : Tandem) (mode g start : ℕ) (best : Answer) → (c : Chosen row mode g start best)
+    → (d : ℕ) → Least (Covers (meaning row (extraOf (c .point)) (tree row)) (flow row 0 .burst) (flow row 0 .rate)) d → best .delay ≡ d
+chosen-least row mode g start best c d l =
+    least-unique (Covers (meaning row (extraOf (c .point)) (tree row)) (flow row 0 .burst) (flow row 0 .rate)) (best .delay) d (c .least) l

@@ -7,7 +7,7 @@ use mathlib.Core.Logic.{_⊎_, inl, inr}
 use mathlib.Core.List.{List, [], _∷_, _++_, map, append-assoc}
 use Prim.Native.Nat.{ℕ, zero, suc, _+_, _-_, _*_, _/_, _^_, _≤_, _<_}
 use native.Mathlib.Omega.{arith}
-use native.Mathlib.Nat.{zero-add, add-zero, zero-mul, zero-div, mul-le-mul-right, mul-comm, mul-div-cancel, div-lt-iff-lt-mul, pow-zero, pow-suc}
+use native.Mathlib.Nat.{zero-add, add-zero, zero-mul, zero-div, mul-le-mul-right, mul-comm, mul-div-cancel, div-lt-iff-lt-mul, le-div-iff-mul-le, pow-zero, pow-suc}
 use lib.Dec.{ltb}
 use lib.ListN.{length, getD, replicate, length-append, replicate-append-replicate}
 use borrow.Author.Tests.{ltb-true, ltb-false, le-ltb, ne-eqb}
@@ -45,6 +45,19 @@ zeros-below b (suc n) = (omega arith, zeros-below b n)
 pub each-in : {A : Type 0} (P : A → Type 0) (l : List A) (x : A) (m : List A) → Each P (l ++ (x ∷ m)) → P x
 each-in P [] x m h = h .0
 each-in P (y ∷ l) x m h = each-in P l x m (h .1)
+
+-- an entry without the property does not stand in the part whose entries all have it
+not-inside : {A : Type 0} (P : A → Type 0) (b y l : List A) (p : A) (m : List A) → b ++ y ≡ l ++ (p ∷ m) → Each P b → (P p → ⊥) → length b ≤ length l
+not-inside P [] y l p m e h n = omega arith
+not-inside P (x ∷ b) y [] p m e h n = let q : x ≡ p = cc in absurd (n (subst P q (h .0)))
+not-inside P (x ∷ b) y (z ∷ l) p m e h n = let r = not-inside P b y l p m (cc) (h .1) n in omega arith
+
+-- what stands behind as many entries of one list is one entry
+same-place : {A : Type 0} (b : List A) (x : A) (y l : List A) (p : A) (m : List A) → b ++ (x ∷ y) ≡ l ++ (p ∷ m) → length b ≡ length l → x ≡ p
+same-place [] x y [] p m e h = cc
+same-place [] x y (z ∷ l) p m e h = absurd (omega arith)
+same-place (w ∷ b) x y [] p m e h = absurd (omega arith)
+same-place (w ∷ b) x y (z ∷ l) p m e h = same-place b x y l p m (cc) (omega arith)
 
 -- the best of a list of points
 
@@ -120,6 +133,34 @@ best-first at a (p ∷ l) = go (better a (at p)) (better-cases a (at p)) (best-f
         let e = ap (λ (r : Answer). r .delay) (x .0) in
         inr (omega (arith, e, y .0), longer (bestOf at b l) (omega (arith, e, y .0, x .1)) (y .1))
 
+-- what the first point with the least delay is
+
+module _ (at : List ℕ → Answer) (points : List (List ℕ)) where
+  -- "The bound is the least delay": no point has a smaller one
+  pub first-least : (best : Answer) → First at points best → Each (λ p. best .delay ≤ at p .delay) points
+  first-least best f =
+      let e = ap (λ (r : Answer). r .delay) (f .there) in
+      subst (Each (λ p. best .delay ≤ at p .delay)) (sym (f .split))
+      (each-append (λ p. best .delay ≤ at p .delay) (f .before) (f .point ∷ f .behind)
+      (each-map (λ p. best .delay < at p .delay) (λ p. best .delay ≤ at p .delay) (f .before) (λ p h. omega arith) (f .greater))
+      (omega (arith, e), f .least))
+
+  -- "on a tie the first point stands": no point before it has as small a delay
+  pub first-stands : (best : Answer) (f : First at points best) (l : List (List ℕ)) (p : List ℕ) (m : List (List ℕ)) → points ≡ l ++ (p ∷ m)
+      → at p .delay ≤ best .delay → length (f .before) ≤ length l
+  first-stands best f l p m e h = not-inside (λ q. best .delay < at q .delay) (f .before) (f .point ∷ f .behind) l p m (sym (f .split) ∙ e) (f .greater) (λ k. omega arith)
+
+  -- so there is only one
+  pub first-unique : (a b : Answer) → First at points a → First at points b → a ≡ b
+  first-unique a b f h =
+      let x = ap (λ (r : Answer). r .delay) (f .there) in
+      let y = ap (λ (r : Answer). r .delay) (h .there) in
+      let u = each-in (λ p. a .delay ≤ at p .delay) (h .before) (h .point) (h .behind) (subst (Each (λ p. a .delay ≤ at p .delay)) (h .split) (first-least a f)) in
+      let v = each-in (λ p. b .delay ≤ at p .delay) (f .before) (f .point) (f .behind) (subst (Each (λ p. b .delay ≤ at p .delay)) (f .split) (first-least b h)) in
+      let n = first-stands a f (h .before) (h .point) (h .behind) (h .split) (omega (arith, x, y, u, v)) in
+      let m = first-stands b h (f .before) (f .point) (f .behind) (f .split) (omega (arith, x, y, u, v)) in
+      f .there ∙ ap at (same-place (f .before) (f .point) (f .behind) (h .before) (h .point) (h .behind) (sym (f .split) ∙ h .split) (omega (arith, n, m))) ∙ sym (h .there)
+
 pub best-le : (at : List ℕ → Answer) (a : Answer) (l : List (List ℕ)) → bestOf at a l .delay ≤ a .delay
 best-le at a l = go (best-first at a l)
   where
@@ -152,6 +193,19 @@ steps-low start g h = each-listed (λ e. e ≤ start) g (λ i. i * start / (g - 
         let c : i * start < suc start * (g - 1) = omega arith in
         let e = div-lt-iff-lt-mul {k = g - 1} {x = i * start} {y = suc start} d .1 c in
         omega arith
+
+-- "floor(i·start / (g − 1)), i = 0..g − 1": step i is the greatest number that, taken g − 1 times, is not above i·start
+pub steps-floor : (start g i : ℕ) → 2 ≤ g → i < g
+    → (getD (stepsOf start g) i 0 * (g - 1) ≤ i * start) × (i * start < suc (getD (stepsOf start g) i 0) * (g - 1))
+unfolding stepsOf
+steps-floor start g i h l = rw (listed-at g (λ i. i * start / (g - 1)) i 0 l) (floor (i * start / (g - 1)) refl)
+  where
+    floor : (e : ℕ) → e ≡ i * start / (g - 1) → (e * (g - 1) ≤ i * start) × (i * start < suc e * (g - 1))
+    floor e q =
+        let d : 0 < g - 1 = omega arith in
+        let a : e ≤ i * start / (g - 1) = omega arith in
+        let b : i * start / (g - 1) < suc e = omega arith in
+        (le-div-iff-mul-le {k = g - 1} d .0 a, div-lt-iff-lt-mul {k = g - 1} d .0 b)
 
 -- and the last is start
 pub steps-last : (start g : ℕ) → 2 ≤ g → getD (stepsOf start g) (g - 1) 0 ≡ start

@@ -3,16 +3,16 @@
 -- Assumes nothing.
 use Prim.Native.Nat.{ℕ, zero, suc, _+_, _-_, _*_, _/_, _^_, _≤_, _<_}
 use mathlib.Core.Path.{_≡_, refl, sym, ap, _∙_}
-use mathlib.Core.Bool.{Bool, true, false, cond, _||_}
+use mathlib.Core.Bool.{Bool, true, false, cond, _||_, true≢false}
 use mathlib.Core.List.{List, [], _∷_, _++_, map}
 use native.Mathlib.Omega.{arith}
 use lib.Dec.{ltb, eqb}
 use lib.ListN.{length, getD, replicate}
-use borrow.Author.Tests.{le-ltb}
+use borrow.Author.Tests.{le-ltb, ltb-false, eq-eqb, eqb-true}
 use Rattle.curves.specs.Curve.{Shape, All, Rates, line, after, remainder, leastWait}
 use Rattle.curves.specs.Held.{Live, Leaves}
 use Rattle.curves.specs.HeldLaws.{leaves-after-wait}
-use Rattle.curves.specs.StageLaws.{all-map, all-both}
+use Rattle.curves.specs.StageLaws.{all-weaken, all-map, all-both}
 use Rattle.curves.specs.declared.Stage.{Stage}
 use Rattle.row.specs.declared.Server.{Server}
 use Rattle.row.specs.declared.Flow.{Flow}
@@ -86,6 +86,116 @@ none-each : {A : Type 0} (P : A → Type 0) (p : A → Bool) (l : List A) → ((
 unfolding some
 none-each P p [] h e = refl
 none-each P p (x ∷ l) h e = neither (p x) (some p l) (h x (e .0)) (none-each P p l h (e .1))
+
+-- What it says of a row that it is not refused by 9: at each point that is worked out, no offset, stage, wait or delay passes 2^63 − 1.
+
+pub record SmallCurve (c : Shape) : Type 0 where
+  pub offset : c .offset ≤ 2 ^ 63 - 1
+  pub stages : All (λ s. (s .burst ≤ 2 ^ 63 - 1) × (s .rate ≤ 2 ^ 63 - 1)) (c .stages)
+
+pub record SmallNode (n : Node) : Type 0 where
+  pub curve : SmallCurve (n .curve)
+  pub wait : n .wait ≤ 2 ^ 63 - 1
+  pub left : SmallCurve (n .left)
+
+pub record SmallAt (row : Tandem) (es : List ℕ) : Type 0 where
+  pub nodes : Each SmallNode (plan (row .servers) (reads row) (0 ∷ es))
+  pub delay : answerAt row es .delay ≤ 2 ^ 63 - 1
+
+not-either : (a b : Bool) → (a || b) ≡ false → (a ≡ false) × (b ≡ false)
+not-either true b h = absurd (true≢false h)
+not-either false b h = (refl, h)
+
+not-large : (n : ℕ) → large n ≡ false → n ≤ 2 ^ 63 - 1
+not-large n h = let l = ltb-false 9223372036854775807 n h in omega arith
+
+not-some : {A : Type 0} (P : A → Type 0) (p : A → Bool) (l : List A) → ((x : A) → p x ≡ false → P x) → some p l ≡ false → Each P l
+unfolding some
+not-some P p [] f h = tt
+not-some P p (x ∷ l) f h = let k = not-either (p x) (some p l) h in (f x (k .0), not-some P p l f (k .1))
+
+small-stages : (l : List Stage) → some (λ (s : Stage). large (s .burst) || large (s .rate)) l ≡ false → All (λ s. (s .burst ≤ 2 ^ 63 - 1) × (s .rate ≤ 2 ^ 63 - 1)) l
+unfolding some
+small-stages [] h = tt
+small-stages (s ∷ l) h =
+    let k = not-either (large (s .burst) || large (s .rate)) (some (λ (s : Stage). large (s .burst) || large (s .rate)) l) h in
+    let b = not-either (large (s .burst)) (large (s .rate)) (k .0) in
+    ((not-large (s .burst) (b .0), not-large (s .rate) (b .1)), small-stages l (k .1))
+
+small-curve : (c : Shape) → largeCurve c ≡ false → SmallCurve c
+unfolding largeCurve
+small-curve c h =
+    let k = not-either (large (c .offset)) (some (λ (s : Stage). large (s .burst) || large (s .rate)) (c .stages)) h in
+    record { offset = not-large (c .offset) (k .0); stages = small-stages (c .stages) (k .1) }
+
+small-node : (n : Node) → largeNode n ≡ false → SmallNode n
+unfolding largeNode
+small-node n h =
+    let k = not-either (largeCurve (n .curve)) (large (n .wait) || largeCurve (n .left)) h in
+    let w = not-either (large (n .wait)) (largeCurve (n .left)) (k .1) in
+    record { curve = small-curve (n .curve) (k .0); wait = not-large (n .wait) (w .0); left = small-curve (n .left) (w .1) }
+
+small-at : (row : Tandem) (es : List ℕ) → largeAt row es ≡ false → SmallAt row es
+unfolding largeAt
+small-at row es h =
+    let k = not-either (some largeNode (plan (row .servers) (reads row) (0 ∷ es))) (large (answerAt row es .delay)) h in
+    record { nodes = not-some SmallNode largeNode (plan (row .servers) (reads row) (0 ∷ es)) small-node (k .0); delay = not-large (answerAt row es .delay) (k .1) }
+
+-- the points that are worked out: the one with every e = 0, and in mode 0 all points of the grid
+pub not-too-large : (row : Tandem) (mode g : ℕ) → tooLarge row mode g ≡ false
+    → SmallAt row (replicate (length (groups row)) 0)
+    × (mode ≡ 0 → Each (SmallAt row) (pointsOf (stepsOf (answerAt row (replicate (length (groups row)) 0) .delay) g) (length (groups row))))
+unfolding tooLarge
+not-too-large row mode g h = (small-at row (replicate n 0) (k .0), λ z. not-some (SmallAt row) (largeAt row) points (small-at row) (turn (eqb mode 0) (eq-eqb mode 0 z) (k .1)))
+  where
+    n : ℕ
+    n = length (groups row)
+
+    points : List (List ℕ)
+    points = pointsOf (stepsOf (answerAt row (replicate n 0) .delay) g) n
+
+    k : (largeAt row (replicate n 0) ≡ false) × (cond (eqb mode 0) (some (largeAt row) points) false ≡ false)
+    k = not-either (largeAt row (replicate n 0)) (cond (eqb mode 0) (some (largeAt row) points) false) h
+
+    turn : (b : Bool) → b ≡ true → cond b (some (largeAt row) points) false ≡ false → some (largeAt row) points ≡ false
+    turn true e q = q
+    turn false e q = absurd (true≢false (sym e))
+
+-- and back: where none of them passes it, the row is not refused by 9
+
+curve-small : (c : Shape) → SmallCurve c → largeCurve c ≡ false
+curve-small c h =
+    light-curve c (omega (arith, h .offset))
+    (all-weaken (λ s. (s .burst ≤ 2 ^ 63 - 1) × (s .rate ≤ 2 ^ 63 - 1)) Light (c .stages) (λ s k. record { burst = omega (arith, k .0); rate = omega (arith, k .1) }) (h .stages))
+
+node-small : (n : Node) → SmallNode n → largeNode n ≡ false
+unfolding largeNode
+node-small n h =
+    neither (largeCurve (n .curve)) (large (n .wait) || largeCurve (n .left)) (curve-small (n .curve) (h .curve))
+    (neither (large (n .wait)) (largeCurve (n .left)) (small-one (n .wait) (omega (arith, h .wait))) (curve-small (n .left) (h .left)))
+
+at-small : (row : Tandem) (es : List ℕ) → SmallAt row es → largeAt row es ≡ false
+unfolding largeAt
+at-small row es h =
+    neither (some largeNode (plan (row .servers) (reads row) (0 ∷ es))) (large (answerAt row es .delay))
+    (none-each SmallNode largeNode (plan (row .servers) (reads row) (0 ∷ es)) node-small (h .nodes)) (small-one (answerAt row es .delay) (omega (arith, h .delay)))
+
+pub small-passes : (row : Tandem) (mode g : ℕ) → SmallAt row (replicate (length (groups row)) 0)
+    → (mode ≡ 0 → Each (SmallAt row) (pointsOf (stepsOf (answerAt row (replicate (length (groups row)) 0) .delay) g) (length (groups row))))
+    → tooLarge row mode g ≡ false
+unfolding tooLarge
+small-passes row mode g h k =
+    neither (largeAt row (replicate n 0)) (cond (eqb mode 0) (some (largeAt row) points) false) (at-small row (replicate n 0) h) (by (eqb mode 0) refl)
+  where
+    n : ℕ
+    n = length (groups row)
+
+    points : List (List ℕ)
+    points = pointsOf (stepsOf (answerAt row (replicate n 0) .delay) g) n
+
+    by : (b : Bool) → eqb mode 0 ≡ b → cond b (some (largeAt row) points) false ≡ false
+    by true e = none-each (SmallAt row) (largeAt row) points (at-small row) (k (eqb-true mode 0 e))
+    by false e = refl
 
 module _ (row : Tandem) (ok : Accepted row) (limits : Limits row) where
   none-at : (es : List ℕ) → ((k : ℕ) → getD es k 0 < 2 ^ 30) → largeAt row es ≡ false

@@ -293,3 +293,36 @@ module _ (row : Tandem) (ok : Accepted row) where
       turn : (f : ℕ) → 0 < f → (on row g f ≡ true) ⊎ (watched f ≡ true) → on row g f ≡ true
       turn f a (inl x) = x
       turn f a (inr x) = absurd (omega (arith, watched-is f x))
+
+-- "the smallest group": no other is; and a group that has a parent is not directly under the root
+
+path-same : (h g : Path) → h .first ≡ g .first → h .last ≡ g .last → h ≡ g
+path-same h g a b = λ d. record { first = a d; last = b d }
+
+-- the path of a flow on h contains what h contains
+on-contains : (row : Tandem) (h g : Path) (f : ℕ) → on row h f ≡ true → Contains h g → Contains (path (flow row f .first) (flow row f .last)) g
+on-contains row h g f e c = let o = on-is row h f e in record { first = omega (arith, o .2, c .first); last = omega (arith, o .3, c .last) }
+
+contains-on : (row : Tandem) (h g : Path) (f : ℕ) → on row h f ≡ true → Contains (path (flow row f .first) (flow row f .last)) g → Contains h g
+contains-on row h g f e c = let o = on-is row h f e in record { first = omega (arith, o .2, c .first); last = omega (arith, o .3, c .last) }
+
+one-path : (row : Tandem) (h g : Path) (f : ℕ) → on row h f ≡ true → on row g f ≡ true → h ≡ g
+one-path row h g f e d = let o = on-is row h f e in let p = on-is row g f d in path-same h g (sym (o .2) ∙ p .2) (sym (o .3) ∙ p .3)
+
+pub parent-unique : (row : Tandem) (h h′ g : Path) (f f′ : ℕ) → on row h f ≡ true → on row h′ f′ ≡ true → Parent row h g → Parent row h′ g → h ≡ h′
+parent-unique row h h′ g f f′ e e′ p p′ =
+    let a = inner h h′ f e p p′ in
+    let b = inner h′ h f′ e′ p′ p in
+    path-same h h′ (omega (arith, a .first, b .first)) (omega (arith, a .last, b .last))
+  where
+    inner : (h h′ : Path) (f : ℕ) → on row h f ≡ true → Parent row h g → Parent row h′ g → Contains h h′
+    inner h h′ f e p p′ = let o = on-is row h f e in turn (p′ .smallest f (o .0) (o .1) (on-contains row h g f e (p .around)))
+      where
+        turn : (on row g f ≡ true) ⊎ Contains (path (flow row f .first) (flow row f .last)) h′ → Contains h h′
+        turn (inl x) = absurd (p .other (one-path row h g f e x))
+        turn (inr x) = contains-on row h h′ f e x
+
+pub parent-or-root : (row : Tandem) (h g : Path) (f : ℕ) → on row h f ≡ true → Parent row h g → Outermost row g → ⊥
+parent-or-root row h g f e p r =
+    let o = on-is row h f e in
+    p .other (one-path row h g f e (r .lone f (o .0) (o .1) (on-contains row h g f e (p .around))))
