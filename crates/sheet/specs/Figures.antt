@@ -16,11 +16,6 @@ use Rattle.sheet.specs.Valid.{Valid}
 use Rattle.sheet.specs.ValidLaws.{listed-valid}
 use Rattle.sheet.specs.TripLaws.{Words}
 
--- "300 is bytes 172, 2."
-pub three-hundred : encode 300 ≡ 172 ∷ 2 ∷ []
-unfolding encode
-three-hundred = refl
-
 -- "the sheet bytes 1, 1, 10, 0, 1, 1, 1, 10, 6, 12, 4, 0, 4 (P7)"
 abbrev pub P7 : List ℕ
 P7 = 1 ∷ 1 ∷ 10 ∷ 0 ∷ 1 ∷ 1 ∷ 1 ∷ 10 ∷ 6 ∷ 12 ∷ 4 ∷ 0 ∷ 4 ∷ []
