@@ -2,6 +2,8 @@
 --   Two cross flows have one path, the middle server alone, and each sends up to its own bucket.
 --   A flow sends all that its bucket allows, is silent, and sends again as soon and as much as its bucket allows.
 --   Bytes leave in the slot in which they joined, before the server's latency is over.
+--   Server 3 sends in each slot what joined in the slot before, and no more, though its line is never empty: nobody asks for the curve over all
+--   the time in which bytes stood in it.
 --   Of the bytes that leave a server in one slot some go on and some do not; fresh bytes join in a slot in which none comes from the server before.
 --   Bytes stay in the line of every server at the record's end.
 --   Slot 0, the slots behind the record and the servers that the row does not have hold bytes that would break every premise: none is asked there.
@@ -57,7 +59,7 @@ abbrev pub leaves : ℕ → ℕ → List ℕ
 leaves zero t = leavesOutside
 leaves (suc zero) t = slots (0 ∷ 0 ∷ []) [] [] (0 ∷ []) [] t
 leaves (suc (suc zero)) t = slots (1 ∷ 0 ∷ []) (2 ∷ 0 ∷ []) (1 ∷ 2 ∷ []) (0 ∷ 1 ∷ []) leavesOutside t
-leaves (suc (suc (suc zero))) t = slots (3 ∷ 0 ∷ 3 ∷ []) (3 ∷ 0 ∷ []) (3 ∷ 3 ∷ []) (0 ∷ []) leavesOutside t
+leaves (suc (suc (suc zero))) t = slots [] (3 ∷ 0 ∷ 3 ∷ 3 ∷ []) (0 ∷ []) (3 ∷ 3 ∷ []) leavesOutside t
 leaves (suc (suc (suc (suc j)))) t = leavesOutside
 
 abbrev pub run : Run ℕ

@@ -1,4 +1,5 @@
--- The search of an accepted row chooses its answer as demand 2 says; and what demand 2 says leaves one start and one answer.
+-- The search of an accepted row chooses its answer as demand 2 says; and what demand 2 says leaves one start, one answer and one point, and the
+-- bound is what the functions on slots make it.
 -- Assumes nothing.
 use Prim.Native.Nat.{ℕ, zero, suc, _≤_, _<_}
 use mathlib.Core.Path.{_≡_, refl, sym, ap, _∙_, subst}
@@ -74,14 +75,15 @@ same-point at d [] (r ∷ m) p q x y e a b h k = let z : p ≡ r = cc in absurd 
 same-point at d (r ∷ l) [] p q x y e a b h k = let z : r ≡ q = cc in absurd (omega (arith, a .0, ap (λ (p : List ℕ). at p .delay) z, k))
 same-point at d (r ∷ l) (t ∷ m) p q x y e a b h k = let z : l ++ (p ∷ x) ≡ m ++ (q ∷ y) = cc in same-point at d l m p q x y z (a .1) (b .1) h k
 
-pub first-unique : (at : List ℕ → Answer) (points : List (List ℕ)) (a b : Answer) → First at points a → First at points b → a ≡ b
-first-unique at points a b f g =
+first-point : (at : List ℕ → Answer) (points : List (List ℕ)) (a b : Answer) (f : First at points a) (g : First at points b) → f .point ≡ g .point
+first-point at points a b f g =
     let d : b .delay ≡ a .delay = omega (arith, least-at at points a b f g, least-at at points b a g f) in
     let h = subst (λ (d : ℕ). Each (λ p. d < at p .delay) (g .before)) d (g .greater) in
-    let same =
     same-point at (a .delay) (f .before) (g .before) (f .point) (g .point) (f .behind) (g .behind) (sym (f .split) ∙ g .split) (f .greater) h
-    (point-delay at a (f .point) (f .there)) (point-delay at b (g .point) (g .there) ∙ d) in
-    f .there ∙ ap at same ∙ sym (g .there)
+    (point-delay at a (f .point) (f .there)) (point-delay at b (g .point) (g .there) ∙ d)
+
+pub first-unique : (at : List ℕ → Answer) (points : List (List ℕ)) (a b : Answer) → First at points a → First at points b → a ≡ b
+first-unique at points a b f g = f .there ∙ ap at (first-point at points a b f g) ∙ sym (g .there)
 
 pub chosen-unique : (row : Tandem) (mode g s t : ℕ) (a b : Answer) → mode ≤ 1 → Chosen row mode g s a → Chosen row mode g t b → (s ≡ t) × (a ≡ b)
 chosen-unique row zero g s t a b m f h =
@@ -91,3 +93,21 @@ chosen-unique row zero g s t a b m f h =
 chosen-unique row (suc mode) g s t a b m f h =
     let one : suc mode ≡ 1 = omega arith in
     (f .begins ∙ sym (h .begins), f .there ∙ ap (answerAt row) (f .quick one ∙ sym (h .quick one)) ∙ sym (h .there))
+
+-- and one point: what is said of the point is said of the first with the least delay
+pub chosen-point : (row : Tandem) (mode g s t : ℕ) (a b : Answer) → mode ≤ 1 → (f : Chosen row mode g s a) (h : Chosen row mode g t b) → f .point ≡ h .point
+chosen-point row zero g s t a b m f h =
+    let e : s ≡ t = f .begins ∙ sym (h .begins) in
+    let j = f .searches refl in
+    let k = h .searches refl in
+    let same =
+    subst
+    (λ (t : ℕ). (k : First (answerAt row) (pointsOf (stepsOf t g) (length (groups row))) b) → j .0 .point ≡ k .point) e
+    (λ k. first-point (answerAt row) (pointsOf (stepsOf s g) (length (groups row))) a b (j .0) k) in
+    sym (j .1) ∙ same (k .0) ∙ k .1
+chosen-point row (suc mode) g s t a b m f h = let one : suc mode ≡ 1 = omega arith in f .quick one ∙ sym (h .quick one)
+
+-- and the bound is the one number that is the least to cover the bucket there
+pub chosen-bound : (row : Tandem) (mode g s : ℕ) (a : Answer) (c : Chosen row mode g s a) (d : ℕ)
+    → Least (Covers (meaning row (extraOf (c .point)) (tree row)) (flow row 0 .burst) (flow row 0 .rate)) d → a .delay ≡ d
+chosen-bound row mode g s a c d l = omega (arith, c .least .least d (l .holds), l .least (a .delay) (c .least .holds))
