@@ -2,6 +2,7 @@
 
 A line of the vectors has four fields with tabs between: `report`, `-`, the bytes of standard input in hexadecimal digits (`-`: none),
 and `text ..` with each line end written as \\n. Rows 11 to 14 of document 01's table must be among them, with the document's answer.
+Two cases stand behind them: the longest sheet, and the same with a byte left over, so that no part of a sheet may be passed by.
 """
 import os
 import sys
@@ -29,6 +30,17 @@ ROWS = {
 }
 
 
+def seven(x):
+    """A number in groups of seven bits, lowest first."""
+    return bytes([x]) if x < 128 else bytes([x % 128 + 128]) + seven(x // 128)
+
+
+# "A valid sheet has at most 475 bytes": every number as long as its range lets it be. Its rates are too high at server 1.
+LONGEST = b"".join(map(seven, [1, 16] + [1000000, 1000] * 16 + [48] + [1, 1, 65535, 65535] * 48 + [65535, 65535, 0, 9]))
+assert len(LONGEST) == 475
+BEHIND = [(LONGEST, "refused 7 at 1\n"), (LONGEST + b"\0", "refused 3 at 475\n")]
+
+
 def main(vectors, cases):
     os.makedirs(cases, exist_ok=True)
     said = {}
@@ -45,6 +57,11 @@ def main(vectors, cases):
                 out.write(text)
     for row, (data, answer) in ROWS.items():
         assert said.get(data, "").startswith(answer), f"row {row} of document 01 is missing, or has another answer"
+    for n, (data, answer) in enumerate(BEHIND, n + 1):
+        with open(f"{cases}/{n}.in", "wb") as out:
+            out.write(data)
+        with open(f"{cases}/{n}.out", "w", encoding="ascii") as out:
+            out.write(answer)
     print(n + 1)
 
 

@@ -1,9 +1,11 @@
--- P1 to P10 of document 01, from the bytes of a sheet to its answer: one statement over one table.
+-- P1 to P10 of document 01, from the bytes of a sheet to its answer: one statement over one table. And the number and detail of each case, of 9 too,
+-- which no sheet is given.
 -- Assumes nothing.
 use mathlib.Core.Path.{_≡_, refl}
 use mathlib.Core.List.{List, [], _∷_, map}
 use Prim.Native.Nat.{ℕ}
 use Rattle.numbers.specs.Seven.{numberAt}
+use Rattle.sheet.specs.declared.Why.the-variants.{Left}
 use Rattle.sheet.specs.Rule.{ruleAt, serverNumbers, seenAfter}
 use Rattle.sheet.specs.Sheet.{stepOn, sheetOf}
 use Rattle.curves.specs.Curve.{server, neutral, joined, ceil, greatest, catchUp, leastWait, remainder, lateness, delay}
@@ -18,6 +20,8 @@ use Rattle.tree.specs.Tree.{walk, top, tree}
 use Rattle.tree.specs.Bound.{bound, waits, answerAt, searched}
 use Rattle.tree.specs.Plan.{plan, nodeOf, nodeCurve, along, topOf}
 use Rattle.tree.specs.Large.{tooLarge, largeAt, some, largeNode, largeCurve}
+use Rattle.analysis.specs.declared.Judged.{Judged}
+use Rattle.analysis.specs.declared.Judged.the-variants.{Refused, Crossing, Crowded, Points, TooLarge, Bounded}
 use Rattle.analysis.specs.Verdict.{Verdict, refused, bounded, listingOf, verdictOf, judgedNumber, judgedDetail, recordNumbers}
 
 -- refusal and detail; or 0 and behind it the numbers of the answer record: bound, start, g, number of groups, waits
@@ -81,3 +85,13 @@ unfolding verdictOf listingOf searched foundOf stepsOf listed pointsOf better an
     overlaps notNested crowded lowestCrowded tooMany tooLarge largeAt some largeNode largeCurve plan nodeOf nodeCurve along topOf tandemOf gridOf
     checkOf sheetOf stepOn ruleAt serverNumbers seenAfter numberAt
 figures = refl
+
+-- "Refusals by number": 3 with its offset, 6, 7 with its server, 8 with its number of groups, 9; and 0 where there is a bound
+abbrev pub each-case : List Judged
+each-case = Refused Left 12 ∷ Crossing ∷ Crowded 2 ∷ Points 17 ∷ TooLarge ∷ Bounded ∷ []
+
+pub each-number : map judgedNumber each-case ≡ 3 ∷ 6 ∷ 7 ∷ 8 ∷ 9 ∷ 0 ∷ []
+each-number = refl
+
+pub each-detail : map judgedDetail each-case ≡ 12 ∷ 0 ∷ 2 ∷ 17 ∷ 0 ∷ 0 ∷ []
+each-detail = refl

@@ -15,12 +15,14 @@ use Rattle.sheet.specs.Valid.{Valid, mode}
 use Rattle.sheet.specs.FrontLaws.{front-verdict}
 use Rattle.sheet.specs.TripLaws.{read-valid}
 use Rattle.sheet.specs.AcceptLaws.{read-refused}
+use Rattle.row.specs.Tandem.{size}
 use Rattle.row.specs.OfSheet.{tandemOf}
 use Rattle.row.specs.OfSheetLaws.{passed-row}
 use Rattle.tree.specs.Bound.{searched}
 use Rattle.tree.specs.Chosen.{Chosen}
 use Rattle.tree.specs.ChosenLaws.{searched-chosen, chosen-unique}
-use Rattle.runs.specs.Demand.{boundOf}
+use Rattle.runs.specs.Run.{Run, Keeps}
+use Rattle.runs.specs.Demand.{OnTime, Within, boundOf}
 use Rattle.runs.specs.DemandLaws.{demand-three, demand-three-in-order}
 use Rattle.analysis.specs.SearchLaws.{grid-held}
 use Rattle.analysis.specs.Verdict.{gridUsed, listingOf, verdictOf}
@@ -69,6 +71,18 @@ answered s before r after call h = by (success-says s before r after call h)
     by (eight xs e m u t a b k) = absurd (omega arith)
     by (ten xs e p w a b k) = absurd (omega arith)
     by (answers xs e p w a b k) = answer-of s before r after xs e p b k
+
+-- so the number that stands first in the buffer bounds every run on the sheet's row that keeps the premises: each watched byte is out in time, and byte
+-- for byte, in order
+pub first-bounds : (s before : List ℕ) (r : ℕ) (after : List ℕ) → Answered s before r after → (xs : List ℕ) → sheetOf s ≡ these xs
+    → (d next : ℕ) → numberAt after 0 ≡ Number d next → {B : Type 0} (run : Run B) (H : ℕ) → Keeps (tandemOf xs) run H
+    → OnTime (tandemOf xs) run H d × Within run H 1 (size (tandemOf xs)) d
+first-bounds s before r after a xs read d next e run H keeps =
+    let x : xs ≡ a .numbers = cc (a .read, read) in
+    let b : a .best .delay ≡ d = cc (a .first, e) in
+    let k = subst (λ (xs : List ℕ). Keeps (tandemOf xs) run H) x keeps in
+    subst (λ (xs : List ℕ). OnTime (tandemOf xs) run H d × Within run H 1 (size (tandemOf xs)) d) (sym x)
+    (subst (λ (d : ℕ). OnTime (tandemOf (a .numbers)) run H d × Within run H 1 (size (tandemOf (a .numbers))) d) b (a .on-time run H k, a .in-order run H k))
 
 -- and what they say leaves one number and one content of the buffer
 pub answered-unique : (s before : List ℕ) (r r′ : ℕ) (after after′ : List ℕ) → Answered s before r after → Answered s before r′ after′

@@ -1,5 +1,5 @@
--- Calls of the entry of the analysis, computed from the definitions: P7 with room to spare, P7 without, and P10. So the hypotheses of the entry's laws
--- can be met, and what they say of P7 is what document 01 says.
+-- Calls of the entries, computed from the definitions: the analysis of P7 with room to spare, of P7 without, of a row with larger numbers, and of P10;
+-- the reader and the writer. So the hypotheses of the entries' laws can be met, and what they say of P7 is what document 01 says.
 -- Assumes nothing.
 use Prim.Native.Nat.{ℕ}
 use mathlib.Core.Path.{_≡_, refl}
@@ -45,6 +45,25 @@ unfolding verdictOf listingOf searched foundOf stepsOf listed pointsOf better an
     crowded lowestCrowded tooMany tooLarge largeAt some largeNode largeCurve plan nodeOf nodeCurve along topOf tandemOf gridOf checkOf sheetOf stepOn ruleAt
     serverNumbers seenAfter numberAt encode
 P7-short = record { gives = refl; holds = refl }
+
+-- "as seven-bit numbers": R 10, T 200; cross 10, 2; watched 8, 3; g 4 has bound and start 202 and wait 201, of two bytes each. The length counts
+-- bytes, not numbers.
+abbrev pub late : List ℕ
+late = 1 ∷ 1 ∷ 10 ∷ 200 ∷ 1 ∷ 1 ∷ 1 ∷ 1 ∷ 10 ∷ 2 ∷ 8 ∷ 3 ∷ 0 ∷ 4 ∷ []
+
+pub late-answer : Analysing late (9 ∷ 9 ∷ 9 ∷ 9 ∷ 9 ∷ 9 ∷ 9 ∷ 9 ∷ 9 ∷ []) 8 (202 ∷ 1 ∷ 202 ∷ 1 ∷ 4 ∷ 1 ∷ 201 ∷ 1 ∷ 9 ∷ [])
+unfolding verdictOf listingOf searched foundOf stepsOf listed pointsOf better answerAt bound waits tree top walk curve afterGroup groupWait server neutral
+    joined ceil greatest catchUp leastWait remainder lateness delay total any crosses on bursts rates used from from-on groups grouped reads overlaps notNested
+    crowded lowestCrowded tooMany tooLarge largeAt some largeNode largeCurve plan nodeOf nodeCurve along topOf tandemOf gridOf checkOf sheetOf stepOn ruleAt
+    serverNumbers seenAfter numberAt encode
+late-answer = record { gives = refl; holds = refl }
+
+pub late-short : Analysing late (9 ∷ 9 ∷ 9 ∷ 9 ∷ 9 ∷ 9 ∷ 9 ∷ []) 42949672968 (9 ∷ 9 ∷ 9 ∷ 9 ∷ 9 ∷ 9 ∷ 9 ∷ [])
+unfolding verdictOf listingOf searched foundOf stepsOf listed pointsOf better answerAt bound waits tree top walk curve afterGroup groupWait server neutral
+    joined ceil greatest catchUp leastWait remainder lateness delay total any crosses on bursts rates used from from-on groups grouped reads overlaps notNested
+    crowded lowestCrowded tooMany tooLarge largeAt some largeNode largeCurve plan nodeOf nodeCurve along topOf tandemOf gridOf checkOf sheetOf stepOn ruleAt
+    serverNumbers seenAfter numberAt encode
+late-short = record { gives = refl; holds = refl }
 
 -- "R 10, rates 6 and 5 | 7, detail 1": 7 · 2^32 + 1
 pub P10-refused : Analysing (1 ∷ 1 ∷ 10 ∷ 0 ∷ 1 ∷ 1 ∷ 1 ∷ 1 ∷ 6 ∷ 1 ∷ 5 ∷ 0 ∷ 3 ∷ []) (9 ∷ []) 30064771073 (9 ∷ [])

@@ -32,7 +32,7 @@ use Rattle.analysis.specs.VerdictLaws.{passed-verdict, listing-small}
 use Rattle.desk.specs.Packed.{asOne}
 use Rattle.desk.specs.DetailLaws.{read-place, record-short}
 use Rattle.desk.specs.Answer.{answerGives, answerHolds}
-use Rattle.desk.specs.Unique.{Analysing}
+use Rattle.desk.specs.Unique.{Analysing, analyse-unique}
 use Rattle.desk.specs.Says.{Uncrowded, TooManyPoints, Passes, answerOf, Says, of-bytes, six, seven, eight, ten, answers}
 
 -- what the verdict is where a sentence holds
@@ -90,6 +90,12 @@ says-given s before n d after (ten xs e p l a b h) =
 says-given s before n d after (answers xs e p l a b h) =
     let t = le-ltb (length before) (length (answerOf xs)) l in
     by-verdict s before _ after (bounded (listingOf xs)) (answer-verdict s xs e p) (rw (a, b, t)) (rw t h)
+
+-- so every call gives and leaves just that
+pub says-always : (s before : List ℕ) (r : ℕ) (after : List ℕ) → Analysing s before r after → (n d : ℕ) (after′ : List ℕ) → Says s before n d after′
+    → (r ≡ asOne n d) × (after ≡ after′)
+says-always s before r after call n d after′ says =
+    analyse-unique s before r (asOne n d) after after′ call (says-given s before n d after′ says)
 
 -- and the other way: each call falls under one case
 
@@ -237,7 +243,7 @@ module _ (s before : List ℕ) (r : ℕ) (after : List ℕ) (bytes : Bytes s) (c
       by (ten xs e p w a b k) = omega arith
       by (answers xs e p w a b k) = omega arith
 
-  -- 6, 7 and 8 only where their sentences hold of the sheet's row and no earlier refusal does (and there always: `says-given`)
+  -- 6, 7 and 8 only where their sentences hold of the sheet's row and no earlier refusal does (and there always: `says-always`)
 
   pub six-only : (d : ℕ) → d < 4294967296 → r ≡ asOne 6 d → (xs : List ℕ) × (sheetOf s ≡ these xs) × Crossed (tandemOf xs) × (d ≡ 0)
   six-only d h e = by (given-says 6 d h e)

@@ -1,4 +1,4 @@
--- The report of P7, which document 01 prints in full, and the refusals of P10 and of a sheet with no byte.
+-- The report of P7, which document 01 prints in full, the report of P8, whose groups differ, and the refusals of P10 and of a sheet with no byte.
 -- Assumes nothing.
 use mathlib.Core.Path.{_≡_, refl}
 use mathlib.Core.List.{List, [], _∷_, _++_}
@@ -37,6 +37,25 @@ text7 =
 pub report7 : textOf (verdictOf sheet7) ≡ text7
 unfolding textOf refusalLine figureLines groupLines groupLine line field decimal verdictOf listingOf searched foundOf stepsOf listed pointsOf better answerAt bound waits tree top walk curve afterGroup groupWait server neutral joined ceil greatest catchUp leastWait remainder lateness delay total any crosses on bursts rates used from from-on groups grouped reads overlaps notNested crowded lowestCrowded tooMany tooLarge largeAt some largeNode largeCurve plan nodeOf nodeCurve along topOf tandemOf gridOf checkOf sheetOf stepOn ruleAt serverNumbers seenAfter numberAt
 report7 = refl
+
+-- P8: three servers 10, 1; cross 4, 2 on (1,1), (2,3), (3,3); watched 6, 2; g 2
+abbrev pub sheet8 : List ℕ
+sheet8 = 1 ∷ 3 ∷ 10 ∷ 1 ∷ 10 ∷ 1 ∷ 10 ∷ 1 ∷ 3 ∷ 1 ∷ 1 ∷ 4 ∷ 2 ∷ 2 ∷ 3 ∷ 4 ∷ 2 ∷ 3 ∷ 3 ∷ 4 ∷ 2 ∷ 6 ∷ 2 ∷ 0 ∷ 2 ∷ []
+
+-- "bound 6", "start 6", "grid 2", "group 1 1 wait 2", "group 2 3 wait 4", "group 3 3 wait 2": the grid is not the start, a group's last server is not its
+-- first, and the groups stand in their order, each with its own wait
+abbrev pub text8 : List ℕ
+text8 =
+    (98 ∷ 111 ∷ 117 ∷ 110 ∷ 100 ∷ 32 ∷ 54 ∷ 10 ∷ [])
+    ++ (115 ∷ 116 ∷ 97 ∷ 114 ∷ 116 ∷ 32 ∷ 54 ∷ 10 ∷ [])
+    ++ (103 ∷ 114 ∷ 105 ∷ 100 ∷ 32 ∷ 50 ∷ 10 ∷ [])
+    ++ (103 ∷ 114 ∷ 111 ∷ 117 ∷ 112 ∷ 32 ∷ 49 ∷ 32 ∷ 49 ∷ 32 ∷ 119 ∷ 97 ∷ 105 ∷ 116 ∷ 32 ∷ 50 ∷ 10 ∷ [])
+    ++ (103 ∷ 114 ∷ 111 ∷ 117 ∷ 112 ∷ 32 ∷ 50 ∷ 32 ∷ 51 ∷ 32 ∷ 119 ∷ 97 ∷ 105 ∷ 116 ∷ 32 ∷ 52 ∷ 10 ∷ [])
+    ++ (103 ∷ 114 ∷ 111 ∷ 117 ∷ 112 ∷ 32 ∷ 51 ∷ 32 ∷ 51 ∷ 32 ∷ 119 ∷ 97 ∷ 105 ∷ 116 ∷ 32 ∷ 50 ∷ 10 ∷ [])
+
+pub report8 : textOf (verdictOf sheet8) ≡ text8
+unfolding textOf refusalLine figureLines groupLines groupLine line field decimal verdictOf listingOf searched foundOf stepsOf listed pointsOf better answerAt bound waits tree top walk curve afterGroup groupWait server neutral joined ceil greatest catchUp leastWait remainder lateness delay total any crosses on bursts rates used from from-on groups grouped reads overlaps notNested crowded lowestCrowded tooMany tooLarge largeAt some largeNode largeCurve plan nodeOf nodeCurve along topOf tandemOf gridOf checkOf sheetOf stepOn ruleAt serverNumbers seenAfter numberAt
+report8 = refl
 
 -- P10: R 10, rates 6 and 5
 abbrev pub sheet10 : List ℕ

@@ -9,6 +9,11 @@ pub zero-spelled : decimal 0 ≡ 48 ∷ []
 unfolding decimal
 zero-spelled = refl
 
+-- "7"
+pub seven-spelled : decimal 7 ≡ 55 ∷ []
+unfolding decimal
+seven-spelled = refl
+
 -- "10"
 pub ten-spelled : decimal 10 ≡ 49 ∷ 48 ∷ []
 unfolding decimal

@@ -1,4 +1,5 @@
--- The search of an accepted row chooses its answer as demand 2 says, and no other answer is chosen so.
+-- The search of an accepted row chooses its answer as demand 2 says; and what demand 2 says leaves one start, one answer and one point, whose bound
+-- is what the functions of slots make it.
 -- Assumes nothing.
 use Prim.Native.Nat.{ℕ, zero, suc, _≤_}
 use mathlib.Core.Path.{_≡_, refl, sym, ap, _∙_, subst}
@@ -17,7 +18,7 @@ use Rattle.tree.specs.Bound.{extraOf, answerAt, searched}
 use Rattle.tree.specs.Meaning.{meaning}
 use Rattle.tree.specs.Chosen.{Chosen, noExtras}
 use Rattle.tree.specs.MeaningLaws.{bound-is-least}
-use Rattle.tree.specs.GridLaws.{first-unique, quick-is}
+use Rattle.tree.specs.GridLaws.{first-point, first-unique, quick-is}
 use Rattle.tree.specs.SearchLaws.{searched-first}
 
 -- what stands at a point has the least delay that covers the watched flow's bucket
@@ -67,6 +68,19 @@ chosen-unique row mode g start start′ best best′ m c d = (same, by mode refl
         first-unique (answerAt row) (pointsOf (stepsOf start g) (length (groups row))) best best′ (c .searches z .0) (subst (λ (s : ℕ). Firsts s best′) (sym same) (d .searches z .0))
     by (suc zero) z m = c .there ∙ ap (answerAt row) (c .quick z ∙ sym (d .quick z)) ∙ sym (d .there)
     by (suc (suc k)) z m = absurd (omega arith)
+
+-- and one point: what is said of the point is said of the first with the least delay
+pub chosen-point : (row : Tandem) (mode g s t : ℕ) (a b : Answer) → mode ≤ 1 → (f : Chosen row mode g s a) (h : Chosen row mode g t b) → f .point ≡ h .point
+chosen-point row zero g s t a b m f h =
+    let e : s ≡ t = f .begins ∙ sym (h .begins) in
+    let j = f .searches refl in
+    let k = h .searches refl in
+    let same =
+    subst
+    (λ (t : ℕ). (k : First (answerAt row) (pointsOf (stepsOf t g) (length (groups row))) b) → j .0 .point ≡ k .point) e
+    (λ k. first-point (answerAt row) (pointsOf (stepsOf s g) (length (groups row))) a b (j .0) k) in
+    sym (j .1) ∙ same (k .0) ∙ k .1
+chosen-point row (suc mode) g s t a b m f h = let one : suc mode ≡ 1 = omega arith in f .quick one ∙ sym (h .quick one)
 
 -- and the bound is the least number that covers the watched flow's bucket over what the nesting tree guarantees at the chosen point
 pub chosen-least : (row : Tandem) (mode g start : ℕ) (best : Answer) → (c : Chosen row mode g start best)

@@ -150,16 +150,19 @@ module _ (at : List ℕ → Answer) (points : List (List ℕ)) where
       → at p .delay ≤ best .delay → length (f .before) ≤ length l
   first-stands best f l p m e h = not-inside (λ q. best .delay < at q .delay) (f .before) (f .point ∷ f .behind) l p m (sym (f .split) ∙ e) (f .greater) (λ k. omega arith)
 
-  -- so there is only one
-  pub first-unique : (a b : Answer) → First at points a → First at points b → a ≡ b
-  first-unique a b f h =
+  -- so there is only one such point, and one answer
+  pub first-point : (a b : Answer) (f : First at points a) (h : First at points b) → f .point ≡ h .point
+  first-point a b f h =
       let x = ap (λ (r : Answer). r .delay) (f .there) in
       let y = ap (λ (r : Answer). r .delay) (h .there) in
       let u = each-in (λ p. a .delay ≤ at p .delay) (h .before) (h .point) (h .behind) (subst (Each (λ p. a .delay ≤ at p .delay)) (h .split) (first-least a f)) in
       let v = each-in (λ p. b .delay ≤ at p .delay) (f .before) (f .point) (f .behind) (subst (Each (λ p. b .delay ≤ at p .delay)) (f .split) (first-least b h)) in
       let n = first-stands a f (h .before) (h .point) (h .behind) (h .split) (omega (arith, x, y, u, v)) in
       let m = first-stands b h (f .before) (f .point) (f .behind) (f .split) (omega (arith, x, y, u, v)) in
-      f .there ∙ ap at (same-place (f .before) (f .point) (f .behind) (h .before) (h .point) (h .behind) (sym (f .split) ∙ h .split) (omega (arith, n, m))) ∙ sym (h .there)
+      same-place (f .before) (f .point) (f .behind) (h .before) (h .point) (h .behind) (sym (f .split) ∙ h .split) (omega (arith, n, m))
+
+  pub first-unique : (a b : Answer) → First at points a → First at points b → a ≡ b
+  first-unique a b f h = f .there ∙ ap at (first-point a b f h) ∙ sym (h .there)
 
 pub best-le : (at : List ℕ → Answer) (a : Answer) (l : List (List ℕ)) → bestOf at a l .delay ≤ a .delay
 best-le at a l = go (best-first at a l)
