@@ -15,4 +15,5 @@ pub mod RunTestLaws
 pub mod Witness
 pub mod Fresh
 pub mod Freedom
+pub mod SilentLaws
 pub mod MistakeLaws

@@ -24,7 +24,8 @@ use Rattle.sheet.specs.Sheet.{fail, these, judged, stepOn, walk, nothing
 use Rattle.sheet.specs.Valid.{Valid}
 use Rattle.sheet.specs.ValidLaws.{valid-listed}
 use Rattle.sheet.specs.WalkLaws.{Stopped, behind, here, stopped}
-use Rattle.sheet.specs.TripLaws.{Words, read-back, write-back, read-valid}
+use Rattle.sheet.specs.TripLaws.{read-back, write-back, read-valid}
+use Rattle.sheet.specs.WordLaws.{valid-words}
 
 -- s is the sheet with the numbers xs: they meet the table, and s is their bytes
 pub record IsSheet (s xs : List ℕ) : Type 0 where
@@ -34,8 +35,8 @@ pub record IsSheet (s xs : List ℕ) : Type 0 where
 pub read-is-sheet : (s xs : List ℕ) → Bytes s → sheetOf s ≡ these xs → IsSheet s xs
 read-is-sheet s xs b h = record { valid = read-valid s xs h; bytes = write-back s xs b h }
 
-pub sheet-is-read : (s xs : List ℕ) → Words xs → IsSheet s xs → sheetOf s ≡ these xs
-sheet-is-read s xs w h = rw (← h .bytes) (read-back xs w (valid-listed xs (h .valid)))
+pub sheet-is-read : (s xs : List ℕ) → IsSheet s xs → sheetOf s ≡ these xs
+sheet-is-read s xs h = rw (← h .bytes) (read-back xs (valid-words xs (h .valid)) (valid-listed xs (h .valid)))
 
 -- which refusals a walk over the fields gives: what holds of each refusal of a step holds of the walk's
 module _ (P : Why → Type 0) (source : ℕ → Got) (size : ℕ) (left : P Left)

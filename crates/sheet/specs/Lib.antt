@@ -8,6 +8,7 @@ pub mod EncodeLaws
 pub mod Valid
 pub mod ValidLaws
 pub mod TripLaws
+pub mod WordLaws
 pub mod AcceptLaws
 pub mod SizeLaws
 pub mod FrontLaws
