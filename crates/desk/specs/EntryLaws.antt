@@ -11,22 +11,14 @@ use borrow.Author.Tests.{lt-ltb, le-ltb}
 use Rattle.numbers.specs.SevenLaws.{lt-or-ge, Bytes}
 use Rattle.sheet.specs.Refusal.{refusal}
 use Rattle.sheet.specs.Sheet.{Found, fail, these, sheetOf, listOf, encodeAll, readGives, readHolds, writeGives, writeHolds}
-use Rattle.sheet.specs.Valid.{Valid}
+use Rattle.sheet.specs.Valid.{Valid, IsSheet}
 use Rattle.sheet.specs.ValidLaws.{listed-valid, valid-listed}
 use Rattle.sheet.specs.WalkLaws.{list-whole}
-use Rattle.sheet.specs.AcceptLaws.{IsSheet, read-is-sheet, sheet-is-read, read-refused, list-refused}
+use Rattle.sheet.specs.AcceptLaws.{read-is-sheet, sheet-is-read, read-refused, list-refused}
 use Rattle.desk.specs.Packed.{asOne, packed}
+use Rattle.desk.specs.Says.{Refused}
 use Rattle.desk.specs.Unique.{Read, Written}
 use Rattle.desk.specs.DetailLaws.{read-place, list-place, read-count, list-count, encode-all-few}
-
--- a refusal, with its number and detail: "1 to 5 and 10 only"; "On refusal the buffer stays as it was."
-pub record Refused (before : List ℕ) (r : ℕ) (after : List ℕ) : Type 0 where
-  pub number : ℕ
-  pub detail : ℕ
-  pub one : r ≡ asOne number detail
-  pub small : detail < 4294967296
-  pub known : ((1 ≤ number) × (number ≤ 5)) ⊎ (number ≡ 10)
-  pub stays : after ≡ before
 
 -- the reader
 

@@ -3,6 +3,7 @@
 -- Assumes nothing.
 use Prim.Native.Nat.{ℕ, _^_, _≤_, _<_}
 use mathlib.Core.Path.{_≡_}
+use mathlib.Core.Logic.{_⊎_}
 use mathlib.Core.List.{List, _++_}
 use lib.ListN.{length, drop}
 use Rattle.sheet.specs.declared.Why.{Why}
@@ -14,6 +15,7 @@ use Rattle.row.specs.Groups.{groups}
 use Rattle.row.specs.OfSheet.{tandemOf}
 use Rattle.row.specs.Sentences.{Crossed, Crowds, Lowest}
 use Rattle.analysis.specs.Verdict.{gridUsed, listingOf, recordOf}
+use Rattle.desk.specs.Packed.{asOne}
 
 -- no server's rates sum above R
 abbrev pub Uncrowded : List ℕ → Type 0
@@ -51,3 +53,13 @@ pub data Says (s before : List ℕ) (n d : ℕ) (after : List ℕ) : Type 0 wher
   -- "refusal 0 and the written length on success"; "bytes past the length stay"
   answers : (xs : List ℕ) → sheetOf s ≡ these xs → Passes xs → length (answerOf xs) ≤ length before
       → n ≡ 0 → d ≡ length (answerOf xs) → after ≡ answerOf xs ++ drop (length (answerOf xs)) before → Says s before n d after
+
+-- What the entry of the reader or of the writer gives and leaves where it refuses, r being the one number: "1 to 5 and 10 only"; "On refusal the
+-- buffer stays as it was."
+pub record Refused (before : List ℕ) (r : ℕ) (after : List ℕ) : Type 0 where
+  pub number : ℕ
+  pub detail : ℕ
+  pub one : r ≡ asOne number detail
+  pub small : detail < 4294967296
+  pub known : ((1 ≤ number) × (number ≤ 5)) ⊎ (number ≡ 10)
+  pub stays : after ≡ before

@@ -21,16 +21,11 @@ use Rattle.sheet.specs.declared.Step.the-variants.{Value, Stop, End}
 use Rattle.sheet.specs.Rule.{most, ruleAt, seenAfter, allowed, whyOutside, isPast}
 use Rattle.sheet.specs.Refusal.{refusal}
 use Rattle.sheet.specs.Sheet.{fail, these, judged, stepOn, walk, nothing, entryAt, sheetOf, listOf, encodeAll}
-use Rattle.sheet.specs.Valid.{Valid}
+use Rattle.sheet.specs.Valid.{Valid, IsSheet}
 use Rattle.sheet.specs.ValidLaws.{valid-listed}
 use Rattle.sheet.specs.WalkLaws.{Stopped, behind, here, stopped}
 use Rattle.sheet.specs.TripLaws.{read-back, write-back, read-valid}
 use Rattle.sheet.specs.WordLaws.{valid-words}
-
--- s is the sheet with the numbers xs: they meet the table, and s is their bytes
-pub record IsSheet (s xs : List ℕ) : Type 0 where
-  pub valid : Valid xs
-  pub bytes : encodeAll xs ≡ s
 
 pub read-is-sheet : (s xs : List ℕ) → Bytes s → sheetOf s ≡ these xs → IsSheet s xs
 read-is-sheet s xs b h = record { valid = read-valid s xs h; bytes = write-back s xs b h }

@@ -162,12 +162,6 @@ ends =
     ∷ []
 
 -- the writer's "offsets count numbers"
-pub ends-written : map (λ (o : Outside). answers (listOf (changed o))) ends ≡ map (λ (o : Outside). o .refusal ∷ o .place ∷ []) ends
+pub ends-refused : map (λ (o : Outside). answers (listOf (changed o))) ends ≡ map (λ (o : Outside). o .refusal ∷ o .place ∷ []) ends
 unfolding listOf stepOn ruleAt seenAfter serverNumbers
-ends-written = refl
-
--- the reader's count bytes
-pub ends-read : map (λ (o : Outside). answers (sheetOf (encodeAll (changed o)))) ends
-    ≡ map (λ (o : Outside). o .refusal ∷ length (encodeAll (take (o .place) (o .numbers))) ∷ []) ends
-unfolding sheetOf stepOn ruleAt seenAfter serverNumbers numberAt encode
-ends-read = refl
+ends-refused = refl

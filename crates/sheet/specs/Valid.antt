@@ -6,6 +6,7 @@ use mathlib.Core.Path.{_≡_}
 use mathlib.Core.Logic.{_⊎_}
 use mathlib.Core.List.{List}
 use lib.ListN.{length, getD}
+use Rattle.sheet.specs.Sheet.{encodeAll}
 
 -- "edition", "N"
 abbrev pub edition : List ℕ → ℕ
@@ -88,3 +89,8 @@ pub record Valid (xs : List ℕ) : Type 0 where
   pub grids : (grid xs ≡ 0) ⊎ Within 2 9 (grid xs)
   -- and no number is missing or left over
   pub size : length xs ≡ watchedPlace xs + 4
+
+-- s is the sheet with the numbers xs: they meet the table, and s is their bytes
+pub record IsSheet (s xs : List ℕ) : Type 0 where
+  pub valid : Valid xs
+  pub bytes : encodeAll xs ≡ s

@@ -27,6 +27,7 @@ use Rattle.tree.specs.SizeLaws.{zeros-at, start-small, plan-fine, delay-
 use Rattle.tree.specs.Searched.{Each, Low}
 use Rattle.tree.specs.GridLaws.{points-low}
 use Rattle.tree.specs.Large.{some, large, largeCurve, largeNode, largeAt, tooLarge}
+use Rattle.tree.specs.Small.{SmallCurve, SmallNode, SmallAt}
 
 neither : (a b : Bool) → a ≡ false → b ≡ false → (a || b) ≡ false
 neither a b p q = rw (p, q)
@@ -87,20 +88,7 @@ unfolding some
 none-each P p [] h e = refl
 none-each P p (x ∷ l) h e = neither (p x) (some p l) (h x (e .0)) (none-each P p l h (e .1))
 
--- What it says of a row that it is not refused by 9: at each point that is worked out, no offset, stage, wait or delay passes 2^63 − 1.
-
-pub record SmallCurve (c : Shape) : Type 0 where
-  pub offset : c .offset ≤ 2 ^ 63 - 1
-  pub stages : All (λ s. (s .burst ≤ 2 ^ 63 - 1) × (s .rate ≤ 2 ^ 63 - 1)) (c .stages)
-
-pub record SmallNode (n : Node) : Type 0 where
-  pub curve : SmallCurve (n .curve)
-  pub wait : n .wait ≤ 2 ^ 63 - 1
-  pub left : SmallCurve (n .left)
-
-pub record SmallAt (row : Tandem) (es : List ℕ) : Type 0 where
-  pub nodes : Each SmallNode (plan (row .servers) (reads row) (0 ∷ es))
-  pub delay : answerAt row es .delay ≤ 2 ^ 63 - 1
+-- what it says of a row that it is not refused by 9
 
 not-either : (a b : Bool) → (a || b) ≡ false → (a ≡ false) × (b ≡ false)
 not-either true b h = absurd (true≢false h)

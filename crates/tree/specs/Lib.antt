@@ -21,6 +21,7 @@ pub mod SizeLaws
 pub mod PruneLaws
 pub mod ParentLaws
 pub mod Large
+pub mod Small
 pub mod LargeLaws
 pub mod GridLaws
 pub mod SearchLaws
