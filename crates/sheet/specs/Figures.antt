@@ -161,7 +161,7 @@ ends =
     ∷ outside greatest 229 2 4 ∷ outside least 12 1 4 ∷ outside greatest 230 10 4
     ∷ []
 
--- the writer's "offsets count numbers"
+-- of the writer, whose "offsets count numbers"; the reader has the same rule at each place (`ruleAt`)
 pub ends-refused : map (λ (o : Outside). answers (listOf (changed o))) ends ≡ map (λ (o : Outside). o .refusal ∷ o .place ∷ []) ends
 unfolding listOf stepOn ruleAt seenAfter serverNumbers
 ends-refused = refl
