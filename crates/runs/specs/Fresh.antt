@@ -25,7 +25,7 @@ use Rattle.tree.specs.Tree.{walk, top, tree}
 use Rattle.tree.specs.Grid.{stepsOf, pointsOf, better, foundOf}
 use Rattle.tree.specs.Bound.{bound, waits, answerAt, searched}
 use Rattle.runs.specs.Lines.{keep, by, Prefix}
-use Rattle.runs.specs.Run.{Run, Keeps, joinedBy, leftBy}
+use Rattle.runs.specs.Run.{Run, ofFlow, Keeps, joinedBy, leftBy}
 use Rattle.runs.specs.Demand.{OnTime, boundOf}
 use Rattle.runs.specs.RunTests.{each, eachOf, begins, same, has, onPath, inOrder, relayed, keepsBuckets, guarantees, keepsAll}
 use Rattle.runs.specs.RunTestLaws.{keeps-all, has-is, has-not}
@@ -105,8 +105,8 @@ unfolding tandemOf listed has by
 out-in-time = run-on-time 1 (omega arith) 4 refl (has-is 4 (joinedBy run 1 1) refl)
 
 -- and in order: bytes 3 and 4, the watched ones that entered in slot 1, are the first of the watched ones that are out by then
-pub out-in-order : Prefix {B = ℕ} (3 ∷ 4 ∷ []) (3 ∷ 4 ∷ 7 ∷ [])
-unfolding tandemOf listed keep by
+pub out-in-order : Prefix (keep (ofFlow run 0) (joinedBy run 1 1)) (keep (ofFlow run 0) (leftBy run 2 5))
+unfolding tandemOf listed
 out-in-order = (rw bound-is at (demand-three-in-order sheet sheet sheet-read sheet-passed run 5 run-keeps)) 1 (omega arith)
 
 -- and no smaller number would do

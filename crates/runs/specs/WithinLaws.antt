@@ -1,10 +1,12 @@
--- Laws of a watched flow's delay between two servers: each byte is out, and delays of consecutive stretches add up.
+-- Laws of a watched flow's delay between two servers: each byte is out, the bytes are out in the order in which they joined, and delays of
+-- consecutive stretches add up.
 -- Assumes nothing.
 use mathlib.Core.Path.{_≡_, sym, ap, _∙_}
 use mathlib.Core.Bool.{Bool, true}
 use mathlib.Core.List.{List·Memᴰ}
 use Prim.Native.Nat.{ℕ, zero, suc, _+_, _≤_, _<_}
 use native.Mathlib.Omega.{arith}
+use lib.ListN.{length, getD, List·getD-append}
 use borrow.Author.Tests.{eqb-true, eq-eqb}
 use Rattle.row.specs.Tandem.{Tandem, size, crosses}
 use Rattle.row.specs.Accepted.{Sound}
@@ -20,6 +22,14 @@ pub within-out : {B : Type 0} (run : Run B) (H a e d : ℕ) → Within run H a e
 within-out run H a e d w t h x z m =
     mem-of-keep (ofFlow run 0) x (leftBy run e (t + d))
     (prefix-mem x (w t h) (mem-keep (ofFlow run 0) x (joinedBy run a t) (eq-eqb 0 (run .of x) (sym z)) m))
+
+-- and byte for byte, in order: the watched byte that was the k-th to join server a by slot t is the k-th to leave server e, counted from 0
+pub within-each : {B : Type 0} (run : Run B) (H a e d : ℕ) → Within run H a e d → (t : ℕ) → t + d ≤ H → (k : ℕ) (none : B)
+    → k < length (keep (ofFlow run 0) (joinedBy run a t))
+    → getD (keep (ofFlow run 0) (leftBy run e (t + d))) k none ≡ getD (keep (ofFlow run 0) (joinedBy run a t)) k none
+within-each run H a e d w t h k none l =
+    let p = w t h in
+    rw (← p .whole) (List·getD-append (keep (ofFlow run 0) (joinedBy run a t)) (p .rest) none k l)
 
 -- "The watched flow crosses all of them."
 pub watched-crosses : (row : Tandem) → Sound row → (j : ℕ) → 0 < j → j ≤ size row → crosses row 0 j ≡ true
