@@ -1,12 +1,12 @@
 /* An example of a planning program for the listing desk: composes the sheet of a row, has it analysed, and prints the listing or the refusal.
  *
- *   rt staticlib desk
- *   cc -std=c99 examples/plan.c target/staticlib/libdesk.a -o plan
+ *   ./gullbiscuit install PREFIX
+ *   cc -std=c99 examples/plan.c $(PKG_CONFIG_PATH=PREFIX/lib/pkgconfig pkg-config --cflags --libs gullbiscuit) -o plan
  *   ./plan
  *
  * The rows are P7, P8, P9 and P10 of document 01, and one with a burst that no sheet can hold. A listing has the lines of the report: bound
  * and start in slots, the grid used, then each group's first and last server and its wait in slots. */
-#include "../include/gullbiscuit.h"
+#include <gullbiscuit.h>
 
 #include <stdio.h>
 

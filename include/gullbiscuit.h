@@ -1,6 +1,7 @@
 /* Gullbiscuit for programs in C and C++: sheets analysed, read and written, with every input answered.
  *
- * Link with libdesk.a (`rt staticlib desk` writes it to target/staticlib/). Each function gives one number, refusal * 2^32 + detail:
+ * Link with libgullbiscuit.a (`./gullbiscuit install PREFIX` puts it under a folder, with this header and a file for pkg-config). Each
+ * function gives one number, refusal * 2^32 + detail:
  * gullbiscuit_refusal and gullbiscuit_detail take it apart. On success the refusal is 0 and the detail is the count or the length.
  *
  * No function allocates, keeps a pointer or calls back. A pointer is never NULL, even where its length is 0; a list is aligned as

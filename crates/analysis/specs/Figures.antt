@@ -1,32 +1,32 @@
--- P1 to P10 of document 01, from the bytes of a sheet to its answer: one statement over one table. And the number and detail of each case, of 9 too,
--- which no sheet is given.
+-- P1 to P10 of document 01, from the bytes of a sheet to its answer: one statement over one table.
 -- Assumes nothing.
 use mathlib.Core.Path.{_≡_, refl}
 use mathlib.Core.List.{List, [], _∷_, map}
 use Prim.Native.Nat.{ℕ}
 use Rattle.numbers.specs.Seven.{numberAt}
-use Rattle.sheet.specs.declared.Why.the-variants.{Left}
-use Rattle.sheet.specs.Rule.{ruleAt, serverNumbers, seenAfter}
-use Rattle.sheet.specs.Sheet.{stepOn, sheetOf}
+use Rattle.fields.specs.Refusal.{refusal}
+use Rattle.fields.specs.Rule.{ruleAt, fieldAt, seenAfter}
+use Rattle.fields.specs.Step.{stepOn}
+use Rattle.sheet.specs.Sheet.{sheetOf}
 use Rattle.curves.specs.Curve.{server, neutral, joined, ceil, greatest, catchUp, leastWait, remainder, lateness, delay}
-use Rattle.row.specs.Sums.{total, any}
-use Rattle.row.specs.Tandem.{crosses, on, bursts, rates}
+use Rattle.tandem.specs.Sums.{total, any}
+use Rattle.tandem.specs.Tandem.{crosses, on, bursts, rates}
 use Rattle.row.specs.Groups.{used, from, from-on, groups, grouped, reads}
-use Rattle.row.specs.Checks.{overlaps, notNested, crowded, lowestCrowded, tooMany}
-use Rattle.row.specs.OfSheet.{listed, tandemOf, gridOf, checkOf}
+use Rattle.tandem.specs.Crowded.{crowded, lowestCrowded}
+use Rattle.row.specs.Checks.{overlaps, notNested, tooMany}
+use Rattle.tandem.specs.OfSheet.{listed, tandemOf}
+use Rattle.row.specs.OfSheet.{gridOf, checkOf}
 use Rattle.tree.specs.Grid.{stepsOf, pointsOf, better, foundOf}
 use Rattle.tree.specs.Stretch.{groupWait, afterGroup, curve}
-use Rattle.tree.specs.Tree.{walk, top, tree}
+use Rattle.tree.specs.Tree.{stretchFrom, top, tree}
 use Rattle.tree.specs.Bound.{bound, waits, answerAt, searched}
 use Rattle.tree.specs.Plan.{plan, nodeOf, nodeCurve, along, topOf}
 use Rattle.tree.specs.Large.{tooLarge, largeAt, some, largeNode, largeCurve}
-use Rattle.analysis.specs.declared.Judged.{Judged}
-use Rattle.analysis.specs.declared.Judged.the-variants.{Refused, Crossing, Crowded, Points, TooLarge, Bounded}
-use Rattle.analysis.specs.Verdict.{Verdict, refused, bounded, listingOf, verdictOf, judgedNumber, judgedDetail, recordNumbers}
+use Rattle.analysis.specs.Verdict.{Verdict, refused, bounded, listingOf, verdictOn, verdictOf, recordNumbers}
 
 -- refusal and detail; or 0 and behind it the numbers of the answer record: bound, start, g, number of groups, waits
 abbrev pub answers : Verdict → List ℕ
-answers (refused j) = judgedNumber j ∷ judgedDetail j ∷ []
+answers (refused w d) = refusal w ∷ d ∷ []
 answers (bounded l) = 0 ∷ recordNumbers l
 
 pub record Figure : Type 0 where
@@ -80,18 +80,9 @@ table =
     ∷ []
 
 pub figures : map (λ (f : Figure). answers (verdictOf (f .sheet))) table ≡ map (λ (f : Figure). f .says) table
-unfolding verdictOf listingOf searched foundOf stepsOf listed pointsOf better answerAt bound waits tree top walk curve afterGroup groupWait server
+unfolding verdictOf verdictOn listingOf searched foundOf stepsOf listed pointsOf better answerAt bound waits tree top stretchFrom curve afterGroup
+    groupWait server
     neutral joined ceil greatest catchUp leastWait remainder lateness delay total any crosses on bursts rates used from from-on groups grouped reads
     overlaps notNested crowded lowestCrowded tooMany tooLarge largeAt some largeNode largeCurve plan nodeOf nodeCurve along topOf tandemOf gridOf
-    checkOf sheetOf stepOn ruleAt serverNumbers seenAfter numberAt
+    checkOf sheetOf stepOn ruleAt fieldAt seenAfter numberAt
 figures = refl
-
--- "Refusals by number": 3 with its offset, 6, 7 with its server, 8 with its number of groups, 9; and 0 where there is a bound
-abbrev pub each-case : List Judged
-each-case = Refused Left 12 ∷ Crossing ∷ Crowded 2 ∷ Points 17 ∷ TooLarge ∷ Bounded ∷ []
-
-pub each-number : map judgedNumber each-case ≡ 3 ∷ 6 ∷ 7 ∷ 8 ∷ 9 ∷ 0 ∷ []
-each-number = refl
-
-pub each-detail : map judgedDetail each-case ≡ 12 ∷ 0 ∷ 2 ∷ 17 ∷ 0 ∷ 0 ∷ []
-each-detail = refl

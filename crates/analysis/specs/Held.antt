@@ -3,20 +3,21 @@
 use Prim.Native.Nat.{ℕ, _-_}
 use mathlib.Core.List.{List}
 use lib.ListN.{length, replicate}
+use Rattle.fields.specs.declared.Why.{Why}
 use Rattle.sheet.specs.Sheet.{Found, fail, these, sheetOf}
-use Rattle.row.specs.declared.Flow.{Flow}
+use Rattle.tandem.specs.declared.Flow.{Flow}
 use Rattle.row.specs.declared.Row.{Row}
-use Rattle.row.specs.OfSheet.{padded, rowOf, checkOf}
+use Rattle.row.specs.RowFor.{padded}
+use Rattle.row.specs.OfSheet.{rowOf, checkOf}
 use Rattle.tree.specs.Grid as grid
 use Rattle.tree.specs.Planned.{noFlow}
-use Rattle.analysis.specs.declared.Judged.{Judged}
-use Rattle.analysis.specs.declared.Judged.the-variants.{Refused, Crossing, Crowded, Points, TooLarge, Bounded}
+use Rattle.analysis.specs.declared.Judged.the-variants.{Refused, Bounded}
 use Rattle.analysis.specs.declared.Analysed.{Analysed}
-use Rattle.analysis.specs.Verdict.{Listing, listingOf, judgedRow}
+use Rattle.analysis.specs.Verdict.{Listing, listingOf, Verdict, refused, bounded, verdictOn}
 
 -- a refusal, with nothing beside it
-abbrev pub blank : Judged → Analysed
-blank j = record { judged = j; bound = 0; start = 0; grid = 0; count = 0; groups = replicate 32 noFlow; waits = replicate 32 0 }
+abbrev pub blank : Why → ℕ → Analysed
+blank w d = record { judged = Refused w d; bound = 0; start = 0; grid = 0; count = 0; groups = replicate 32 noFlow; waits = replicate 32 0 }
 
 -- a listing, with the flows that it was worked out of
 abbrev pub filled : List Flow → Listing → Analysed
@@ -44,22 +45,19 @@ rowHeld row found =
       waits = padded 32 0 (found .best .waits);
     }
 
-abbrev pub heldWhere : Judged → Analysed → Analysed
-heldWhere (Refused w d) a = blank (Refused w d)
-heldWhere Crossing a = blank Crossing
-heldWhere (Crowded j) a = blank (Crowded j)
-heldWhere (Points n) a = blank (Points n)
-heldWhere TooLarge a = blank TooLarge
-heldWhere Bounded a = a
+-- a verdict, with the flows that its listing was worked out of
+abbrev pub verdictHeld : List Flow → Verdict → Analysed
+verdictHeld flows (refused w d) = blank w d
+verdictHeld flows (bounded l) = filled flows l
 
 -- the analysis of a sheet's numbers
-unfoldable pub judgedHeld : List ℕ → Analysed
-judgedHeld xs = heldWhere (judgedRow (checkOf xs) xs) (filled (rowOf xs .groups) (listingOf xs))
+unfoldable pub numbersHeld : List ℕ → Analysed
+numbersHeld xs = verdictHeld (rowOf xs .groups) (verdictOn xs)
 
 -- and of its bytes
 abbrev pub sheetHeld : Found → Analysed
-sheetHeld (fail w d) = blank (Refused w d)
-sheetHeld (these xs) = judgedHeld xs
+sheetHeld (fail w d) = blank w d
+sheetHeld (these xs) = numbersHeld xs
 
 unfoldable pub analysedOf : List ℕ → Analysed
 analysedOf bytes = sheetHeld (sheetOf bytes)

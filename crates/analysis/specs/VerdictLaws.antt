@@ -7,30 +7,32 @@ use mathlib.Core.Logic.{_⊎_, inl, inr}
 use mathlib.Core.List.{List}
 use native.Mathlib.Omega.{arith}
 use lib.ListN.{length, getD}
-use Rattle.sheet.specs.declared.Why.{Why}
+use Rattle.fields.specs.declared.Why.{Why}
+use Rattle.fields.specs.declared.Why.the-variants.{Crossing, Crowded, Points}
 use Rattle.sheet.specs.Sheet.{Found, fail, these, sheetOf}
 use Rattle.sheet.specs.Valid.{serverCount, mode, grid, Valid}
-use Rattle.sheet.specs.TripLaws.{read-valid}
+use Rattle.sheet.specs.ValidLaws.{read-valid}
 use Rattle.row.specs.declared.Check.{Check}
 use Rattle.row.specs.declared.Check.the-variants as check
-use Rattle.row.specs.Tandem.{Tandem, size}
+use Rattle.tandem.specs.Tandem.{Tandem, size}
 use Rattle.row.specs.Groups.{groups}
 use Rattle.row.specs.CountLaws.{few-groups}
-use Rattle.row.specs.OfSheet.{tandemOf, gridOf, rowOf, checkOf}
-use Rattle.row.specs.OfSheetLaws.{row-size, limits, accepted, passed-row, crossing-first, crowded-second, points-third, passed-last}
-use Rattle.row.specs.Checks.{notNested, lowestCrowded, tooMany}
-use Rattle.row.specs.CheckLaws.{crowded-lowest}
-use Rattle.row.specs.TestLaws.{decide, le-or-lt}
+use Rattle.tandem.specs.OfSheet.{tandemOf}
+use Rattle.row.specs.OfSheet.{gridOf, rowOf, checkOf}
+use Rattle.tandem.specs.OfSheetLaws.{row-size, limits}
+use Rattle.row.specs.OfSheetLaws.{grid-range, accepted, passed-row, crossing-first, crowded-second, points-third, passed-last}
+use Rattle.tandem.specs.Crowded.{lowestCrowded}
+use Rattle.row.specs.Checks.{notNested, tooMany}
+use Rattle.tandem.specs.CrowdedLaws.{crowded-lowest}
+use Rattle.ground.specs.OrderLaws.{le-or-lt}
+use Rattle.tandem.specs.TestLaws.{decide}
 use Rattle.tree.specs.Grid.{Answer}
 use Rattle.tree.specs.Bound.{answerAt, searched}
 use Rattle.tree.specs.GridLaws.{found-at}
 use Rattle.tree.specs.SearchLaws.{answer-waits, searched-le-start, searched-start-small, searched-wait-le}
 use Rattle.tree.specs.LargeLaws.{never-too-large}
-use Rattle.analysis.specs.declared.Judged.{Judged}
-use Rattle.analysis.specs.declared.Judged.the-variants.{Refused, Crossing, Crowded, Points}
-use Rattle.analysis.specs.Verdict.{Listing, gridUsed, listingOf, refused, bounded, verdictOf, judgedDetail, isBounded}
-use Rattle.analysis.specs.Held.{blank, filled, judgedHeld, analysedOf}
-use Rattle.analysis.specs.SearchLaws.{grid-held}
+use Rattle.analysis.specs.Verdict.{Listing, gridUsed, listingOf, refused, bounded, verdictOn, verdictOf}
+use Rattle.analysis.specs.Held.{blank, filled, numbersHeld, analysedOf}
 
 -- the detail of a check that is not passed is small
 abbrev checkDetail : Check → ℕ
@@ -46,7 +48,8 @@ check-small xs v = crossing (decide (notNested row))
     row = tandemOf xs
 
     many : (notNested row ≡ false) → lowestCrowded row 1 (size row) ≡ 0
-        → (tooMany row (mode xs) (gridOf (serverCount xs) (grid xs)) ≡ true) ⊎ (tooMany row (mode xs) (gridOf (serverCount xs) (grid xs)) ≡ false) → checkDetail (checkOf xs) ≤ 48
+        → (tooMany row (mode xs) (gridOf (serverCount xs) (grid xs)) ≡ true) ⊎ (tooMany row (mode xs) (gridOf (serverCount xs) (grid xs)) ≡ false)
+        → checkDetail (checkOf xs) ≤ 48
     many n e (inl t) = rw (points-third xs n e t) (omega (arith, few-groups row (accepted xs v n e) (limits xs v)))
     many n e (inr t) = rw (passed-last xs n e t) (omega arith)
 
@@ -61,40 +64,41 @@ check-small xs v = crossing (decide (notNested row))
     crossing (inr n) = crowded n (le-or-lt (lowestCrowded row 1 (size row)) 0)
 
 -- why a sheet is refused: its bytes, or a check of its row, whose detail is small
-pub data Cause (bytes : List ℕ) (j : Judged) : Type 0 where
-  of-bytes : (w : Why) (d : ℕ) → j ≡ Refused w d → sheetOf bytes ≡ fail w d → Cause bytes j
-  of-row : judgedDetail j ≤ 48 → Cause bytes j
+pub data Cause (bytes : List ℕ) (w : Why) (d : ℕ) : Type 0 where
+  of-bytes : sheetOf bytes ≡ fail w d → Cause bytes w d
+  of-row : d ≤ 48 → Cause bytes w d
 
--- what is said of a sheet's bytes, and what is held
-pub data Said (bytes : List ℕ) : Type 0 where
-  refusing : (j : Judged) → Cause bytes j → verdictOf bytes ≡ refused j → analysedOf bytes ≡ blank j → isBounded j ≡ false → Said bytes
+-- the two cases of a sheet's bytes: what the verdict is, and what is held
+pub data Case (bytes : List ℕ) : Type 0 where
+  refusing : (w : Why) (d : ℕ) → Cause bytes w d → verdictOf bytes ≡ refused w d → analysedOf bytes ≡ blank w d → Case bytes
   listing : (xs : List ℕ) → sheetOf bytes ≡ these xs → Valid xs → checkOf xs ≡ check.Passed → verdictOf bytes ≡ bounded (listingOf xs)
-      → analysedOf bytes ≡ filled (rowOf xs .groups) (listingOf xs) → Said bytes
+      → analysedOf bytes ≡ filled (rowOf xs .groups) (listingOf xs) → Case bytes
+
+-- a row that passes the checks is listed: 9 is never given
+pub passed-listed : (xs : List ℕ) → Valid xs → checkOf xs ≡ check.Passed → verdictOn xs ≡ bounded (listingOf xs)
+unfolding verdictOn
+passed-listed xs v e =
+    let p = passed-row xs v e in
+    rw (e, never-too-large (tandemOf xs) (p .accepts) (p .limited) (mode xs) (gridUsed xs) (grid-range xs v .0))
 
 pub passed-verdict : (bytes xs : List ℕ) → sheetOf bytes ≡ these xs → Valid xs → checkOf xs ≡ check.Passed → verdictOf bytes ≡ bounded (listingOf xs)
 unfolding verdictOf
-passed-verdict bytes xs s v e =
-    let p = passed-row xs v e in
-    let l = never-too-large (tandemOf xs) (p .accepts) (p .limited) (mode xs) (gridUsed xs) (grid-held xs v e .0) in
-    rw (s, e, l)
+passed-verdict bytes xs s v e = rw (s, passed-listed xs v e)
 
-said-row : (bytes xs : List ℕ) → sheetOf bytes ≡ these xs → Valid xs → (c : Check) → checkOf xs ≡ c → checkDetail c ≤ 48 → Said bytes
-unfolding verdictOf analysedOf judgedHeld
-said-row bytes xs s v check.Passed e d =
-    let p = passed-row xs v e in
-    let l = never-too-large (tandemOf xs) (p .accepts) (p .limited) (mode xs) (gridUsed xs) (grid-held xs v e .0) in
-    listing xs s v e (passed-verdict bytes xs s v e) (rw (s, e, l))
-said-row bytes xs s v check.Crossing e d = refusing Crossing (of-row (omega arith)) (rw (s, e)) (rw (s, e)) refl
-said-row bytes xs s v (check.Crowded j) e d = refusing (Crowded j) (of-row d) (rw (s, e)) (rw (s, e)) refl
-said-row bytes xs s v (check.Points n) e d = refusing (Points n) (of-row d) (rw (s, e)) (rw (s, e)) refl
+case-row : (bytes xs : List ℕ) → sheetOf bytes ≡ these xs → Valid xs → (c : Check) → checkOf xs ≡ c → checkDetail c ≤ 48 → Case bytes
+unfolding verdictOf verdictOn analysedOf numbersHeld
+case-row bytes xs s v check.Passed e d = listing xs s v e (passed-verdict bytes xs s v e) (rw (s, passed-listed xs v e))
+case-row bytes xs s v check.Crossing e d = refusing Crossing 0 (of-row (omega arith)) (rw (s, e)) (rw (s, e))
+case-row bytes xs s v (check.Crowded j) e d = refusing Crowded j (of-row d) (rw (s, e)) (rw (s, e))
+case-row bytes xs s v (check.Points n) e d = refusing Points n (of-row d) (rw (s, e)) (rw (s, e))
 
-pub said : (bytes : List ℕ) → Said bytes
+pub case-of : (bytes : List ℕ) → Case bytes
 unfolding verdictOf analysedOf
-said bytes = by (sheetOf bytes) refl
+case-of bytes = by (sheetOf bytes) refl
   where
-    by : (f : Found) → sheetOf bytes ≡ f → Said bytes
-    by (fail w d) e = refusing (Refused w d) (of-bytes w d refl e) (rw e) (rw e) refl
-    by (these xs) e = let v = read-valid bytes xs e in said-row bytes xs e v (checkOf xs) refl (check-small xs v)
+    by : (f : Found) → sheetOf bytes ≡ f → Case bytes
+    by (fail w d) e = refusing w d (of-bytes e) (rw e) (rw e)
+    by (these xs) e = let v = read-valid bytes xs e in case-row bytes xs e v (checkOf xs) refl (check-small xs v)
 
 -- the numbers of a listing are small
 pub record Small (l : Listing) : Type 0 where
@@ -111,7 +115,7 @@ listing-small xs v passed =
     let row = tandemOf xs in
     let p = passed-row xs v passed in
     let ok = p .accepts in
-    let g = grid-held xs v passed in
+    let g = grid-range xs v in
     let s = searched-start-small row ok (p .limited) (mode xs) (gridUsed xs) in
     let b = searched-le-start row (mode xs) (gridUsed xs) in
     record {
@@ -125,5 +129,5 @@ listing-small xs v passed =
   where
     each : length (searched (tandemOf xs) (mode xs) (gridUsed xs) .best .waits) ≡ length (groups (tandemOf xs))
     each =
-        let x = found-at (answerAt (tandemOf xs)) (length (groups (tandemOf xs))) (mode xs) (gridUsed xs) (grid-held xs v passed .0) in
+        let x = found-at (answerAt (tandemOf xs)) (length (groups (tandemOf xs))) (mode xs) (gridUsed xs) (grid-range xs v .0) in
         ap (λ (a : Answer). length (a .waits)) (x .2) ∙ answer-waits (tandemOf xs) (x .0)

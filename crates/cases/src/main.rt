@@ -5,9 +5,9 @@
 // the bytes to read, or four for each number to write. Every number here has its lowest byte first.
 ghost use Prim.Native.Nat.{_+_, _*_, _≤_, _<_};
 ghost use lib.ListN.{length};
+use fields::Outcome;
+use fields::Why;
 use numbers::Got;
-use sheet::Outcome;
-use sheet::Why;
 
 // What fills the lent list before each call; no field of a sheet is as large.
 const UNREAD: u32 = 2779096485;
@@ -58,7 +58,7 @@ fn print_next(x: u64) {
 // Writes the line of a refusal.
 fn print_refusal(why: Why, detail: usize) {
     io::write_all(1, b"refused");
-    print_next(sheet::refusal_of(why) as u64);
+    print_next(fields::refusal_of(why) as u64);
     print_next(detail as u64);
     io::write_all(1, b"\n");
 }

@@ -21,18 +21,18 @@ use Rattle.curves.specs.DelayLaws.{delay-le}
 use Rattle.curves.specs.StageLaws.{all-weaken}
 use Rattle.curves.specs.Part.{changed, lagIn}
 use Rattle.curves.specs.PartLaws.{changed-inside, changed-outside, lag-le}
-use Rattle.row.specs.declared.Flow.{Flow}
-use Rattle.row.specs.Sums.{weigh}
-use Rattle.row.specs.TestLaws.{or-cases}
-use Rattle.row.specs.OfSheetLaws.{length-listed, listed-at}
-use Rattle.tree.specs.Searched.{Each}
-use Rattle.tree.specs.GridLaws.{each-at}
+use Rattle.tandem.specs.declared.Flow.{Flow}
+use Rattle.tandem.specs.Sums.{weigh}
+use Rattle.tandem.specs.TestLaws.{or-cases}
+use Rattle.tandem.specs.OfSheetLaws.{length-listed, listed-at}
+use Rattle.ground.specs.Each.{Each}
+use Rattle.ground.specs.EachLaws.{each-at}
 use Rattle.tree.specs.Planned.{noFlow}
 use Rattle.tree.specs.Ordered.{Placed}
 use Rattle.grid.specs.declared.Steps.{Steps}
 use Rattle.grid.specs.Steps.{stepAt, digitsOf, valuesOf}
 use Rattle.grid.specs.StepsLaws.{steps-le, steps-few, digits-held, values-held, digits-full, values-full}
-use Rattle.climb.specs.Flows.{flowAt}
+use Rattle.tandem.specs.Lent.{lentFlow}
 use Rattle.keys.specs.Numbers.{firstDigits, Growing}
 use Rattle.keys.specs.NumberLaws.{first-digits-stand, first-digits-grow}
 use Rattle.keys.specs.Keys.{leastOf}
@@ -115,10 +115,10 @@ number-small {steps = steps} {k = k} {s = s} r = omega (arith, r .numbered, weig
 
 -- the watched flow: every group is chosen
 module _ (flows : List ℕ) (steps : Steps) (k : ℕ) (s : Branch) (wants : List ℕ) (best : ℕ) (r : Ready flows steps k s wants best)
-    (last : k ≡ 0) (w : Flow) (is : w ≡ flowAt flows k)
+    (last : k ≡ 0) (w : Flow) (is : w ≡ lentFlow flows k)
   where
     watched-is : w ≡ watchedIn flows
-    watched-is = is ∙ ap (flowAt flows) last
+    watched-is = is ∙ ap (lentFlow flows) last
 
     rates-end : Rates 1 (shapeOf (s .curve) .stages)
     rates-end = moving-rates (groupsIn flows) k (stateOf s) (r .moving)
@@ -157,7 +157,7 @@ pub record Call : Type 0 where
   pub ready : Ready flows steps k s wants best
   pub some : k ≡ suc (k - 1)
   pub group : Flow
-  pub is : group ≡ flowAt flows k
+  pub is : group ≡ lentFlow flows k
 
 module _ (c : Call) where
   abbrev r : Ready (c .flows) (c .steps) (c .k) (c .s) (c .wants) (c .best)
@@ -199,12 +199,12 @@ module _ (c : Call) where
   least-below = leastKey (c .flows) (c .steps) (c .k) (c .s) (c .best)
 
   there : k < length gs
-  there = omega (arith, length-listed (length (c .flows) / 4 - 1) (λ i. flowAt (c .flows) (suc i)), r .reached, c .some)
+  there = omega (arith, length-listed (length (c .flows) / 4 - 1) (λ i. lentFlow (c .flows) (suc i)), r .reached, c .some)
 
   group-is : getD gs k noFlow ≡ f
   group-is =
-      listed-at (length (c .flows) / 4 - 1) (λ i. flowAt (c .flows) (suc i)) k noFlow (omega (arith, r .reached, c .some))
-      ∙ ap (flowAt (c .flows)) (sym (c .some)) ∙ sym (c .is)
+      listed-at (length (c .flows) / 4 - 1) (λ i. lentFlow (c .flows) (suc i)) k noFlow (omega (arith, r .reached, c .some))
+      ∙ ap (lentFlow (c .flows)) (sym (c .some)) ∙ sym (c .is)
 
   moving : Moving gs (suc k) (stateOf (c .s))
   moving = subst (λ (x : ℕ). Moving gs x (stateOf (c .s))) (c .some) (r .moving)

@@ -13,7 +13,7 @@ use Rattle.curves.specs.declared.Stage.{Stage}
 use Rattle.curves.specs.Curve.{line}
 use Rattle.curves.specs.Held.{blank}
 use Rattle.curves.specs.PartLaws.{next-slice}
-use Rattle.row.specs.declared.Flow.{Flow}
+use Rattle.tandem.specs.declared.Flow.{Flow}
 use Rattle.keys.specs.State.{gives, givesBeside}
 
 -- n stages of the array l are the curve's; those from i up to before `to` are still to ask

@@ -7,7 +7,7 @@ use lib.Seq.{slice}
 use Rattle.curves.specs.declared.Curve.{Curve}
 use Rattle.curves.specs.Curve.{All, line}
 use Rattle.curves.specs.Held.{Leaves, shapeOf}
-use Rattle.row.specs.declared.Flow.{Flow}
+use Rattle.tandem.specs.declared.Flow.{Flow}
 use Rattle.tree.specs.Ordered.{Placed}
 use Rattle.keys.specs.State.{restOf}
 use Rattle.climb.specs.declared.Branch.{Branch}

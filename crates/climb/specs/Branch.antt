@@ -4,9 +4,9 @@ use mathlib.Core.List.{List}
 use Prim.Native.Nat.{ℕ, suc, _-_, _/_}
 use lib.ListN.{length, getD}
 use Rattle.curves.specs.Held.{shapeOf}
-use Rattle.row.specs.declared.Flow.{Flow}
-use Rattle.row.specs.OfSheet.{listed}
-use Rattle.climb.specs.Flows.{flowAt}
+use Rattle.tandem.specs.declared.Flow.{Flow}
+use Rattle.tandem.specs.OfSheet.{listed}
+use Rattle.tandem.specs.Lent.{lentFlow}
 use Rattle.keys.specs.State.{State, state}
 use Rattle.climb.specs.declared.Branch.{Branch}
 
@@ -16,10 +16,10 @@ stateOf s = state (shapeOf (s .curve)) (s .number) (s .weight)
 
 -- the flows of a list of numbers: the watched one, and the groups behind it
 abbrev pub watchedIn : List ℕ → Flow
-watchedIn flows = flowAt flows 0
+watchedIn flows = lentFlow flows 0
 
 abbrev pub groupsIn : List ℕ → List Flow
-groupsIn flows = listed (length flows / 4 - 1) (λ i. flowAt flows (suc i))
+groupsIn flows = listed (length flows / 4 - 1) (λ i. lentFlow flows (suc i))
 
 -- what a list of numbers wants of server j
 abbrev pub wantIn : List ℕ → ℕ → ℕ

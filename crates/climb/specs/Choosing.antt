@@ -6,7 +6,7 @@ use mathlib.Core.List.{List}
 use Prim.Native.Nat.{ℕ, _+_, _*_, _/_, _≤_, _<_, _^_}
 use lib.ListN.{length}
 use Rattle.curves.specs.Held.{shapeOf}
-use Rattle.tree.specs.Searched.{Each}
+use Rattle.ground.specs.Each.{Each}
 use Rattle.tree.specs.Ordered.{Placed}
 use Rattle.keys.specs.Keys.{leastOf}
 use Rattle.keys.specs.Choose.{keysUnder}

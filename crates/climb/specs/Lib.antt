@@ -1,5 +1,5 @@
-pub mod Flows
 pub mod Branch
 pub mod Asked
 pub mod Choosing
+pub mod Contract
 pub mod Unique

@@ -4,40 +4,26 @@ ghost use mathlib.Core.Path.{_≡_};
 ghost use Prim.Native.Nat.{ℕ, _+_, _-_, _*_, _≤_, _<_, _^_, min};
 ghost use mathlib.Core.Bool.{_||_, not};
 ghost use lib.Dec.{leb};
-ghost use lib.ListN.{length};
 ghost use lib.Seq.{slice};
 ghost use Rattle.curves.specs.Curve.{All, line, delay};
 ghost use Rattle.curves.specs.Held.{InRange, Holds, shapeOf};
 ghost use Rattle.curves.specs.Part.{changed};
-ghost use Rattle.climb.specs.Flows.{flowAt};
 ghost use Rattle.keys.specs.Left.{leftBy};
 ghost use Rattle.keys.specs.State.{gives, restOf, givesBeside, givesUnder};
 ghost use Rattle.climb.specs.Branch.{wantIn};
 ghost use Rattle.climb.specs.Asked.{Takes, Asks};
-ghost use Rattle.climb.specs.Choosing.{Ready, leastKey};
+ghost use Rattle.climb.specs.Choosing.{Ready};
+ghost use Rattle.climb.specs.Contract.{Choose};
 use curves::Curve;
 use grid::Steps;
-use row::Flow;
+use tandem::Flow;
+use tandem::flow_in;
 
 // What the groups chosen so far leave of the row, the number that their digits write, and what a digit of the next group counts.
 pub struct Branch {
     pub curve: Curve,
     pub number: u64,
     pub weight: u64,
-}
-
-// Flow k of a list of flows.
-fn flow_at(flows: &[u64], k: usize) -> Flow
-    requires { ⌜ (4 * k + 3 < length (now flows)) × (length (now flows) ≤ 128) ⌝ }
-    ensures { λ r. ⌜ r ≡ flowAt (now (flows .entry)) k ⌝ }
-{
-    let at = 4 * k;
-    Flow {
-        first: flows[at] as usize,
-        last: flows[at + 1] as usize,
-        burst: flows[at + 2],
-        rate: flows[at + 3],
-    }
 }
 
 // Whether a key with these slots and this number has reached the best so far.
@@ -142,9 +128,9 @@ fn leaf(s: Branch, w: Flow, best: u64) -> u64
 // step in turn, and below each the groups before it.
 pub fn choose(flows: &[u64], steps: Steps, k: usize, s: Branch, wants: [u64; 16], best: u64) -> u64
     requires { ⌜ Ready (now flows) steps k s wants best ⌝ }
-    ensures { λ r. ⌜ r ≡ leastKey (now (flows .entry)) steps k s best ⌝ }
+    ensures { λ r. ⌜ Choose (now (flows .entry)) steps k s best r ⌝ }
 {
-    let g = flow_at(flows, k);
+    let g = flow_in(flows, k);
     if k == 0 {
         return leaf(s, g, best);
     }

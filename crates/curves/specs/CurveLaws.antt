@@ -10,7 +10,8 @@ use lib.ListN.{length}
 use Rattle.curves.specs.declared.Stage.{Stage}
 use Rattle.curves.specs.Slots.{serve}
 use Rattle.curves.specs.Curve.{Shape, line, leastLine, valueAt, server, catchUp, leastWait, Rates, Below, Under}
-use Rattle.curves.specs.SlotsLaws.{le-or-lt, zero-before, zero-after}
+use Rattle.ground.specs.OrderLaws.{le-or-lt}
+use Rattle.curves.specs.SlotsLaws.{zero-before, zero-after}
 use Rattle.curves.specs.StageLaws.{all-weaken, all-both, greatest-le, le-greatest, catch-up-enough, catch-up-least, catch-up-le}
 
 pub value-before : (c : Shape) (t : ℕ) → t ≤ c .offset → valueAt c t ≡ 0

@@ -10,7 +10,7 @@ use lib.ListN.{length}
 use Rattle.curves.specs.declared.Stage.{Stage}
 use Rattle.curves.specs.Slots.{bucket, Covers, Least}
 use Rattle.curves.specs.Curve.{Shape, line, leastLine, valueAt, catchUp, leastWait, lateness, delay, Rates, Below, Under}
-use Rattle.curves.specs.SlotsLaws.{le-or-lt}
+use Rattle.ground.specs.OrderLaws.{le-or-lt}
 use Rattle.curves.specs.StageLaws.{all-weaken, all-both, greatest-pred, lateness-is, below-mono}
 use Rattle.curves.specs.CurveLaws.{value-before, value-after, below-of-least, value-of-under, wait-after-offset, wait-le, wait-enough, wait-least}
 

@@ -6,7 +6,7 @@ use Prim.Native.Nat.{ℕ, _+_, _-_, _≤_, _<_, _^_}
 use native.Mathlib.Nat.{mul-le-mul}
 use native.Mathlib.Omega.{arith}
 use lib.ListN.{length, drop}
-use lib.Seq.{paste, drop-drop, length-paste-head, take-at, drop-at}
+use lib.Seq.{paste, drop-drop, length-paste-head, take-at}
 use Rattle.curves.specs.declared.Stage.{Stage}
 use Rattle.curves.specs.declared.Curve.{Curve}
 use Rattle.curves.specs.Curve.{Shape, line, joined, remainder, leastWait, delay, All, Rates}
@@ -23,10 +23,6 @@ held-holds c rest e = record { shape = rw (e, take-at (c .stages) rest (length (
 -- both parts of what a method says of its curve, from the first
 pub held-both : {r : Curve} (c : Shape) (rest : List Stage) → r ≡ held c rest → (r ≡ held c rest) × Holds r c
 held-both c rest e = (e, held-holds c rest e)
-
-pub held-spare : {r : Curve} (c : Shape) (rest : List Stage) → r ≡ held c rest → spare r ≡ rest
-unfolding held
-held-spare c rest e = rw (e, drop-at (c .stages) rest (length (c .stages)) refl)
 
 -- what a join makes
 pub held-joined : (a b : Curve) → a .count ≤ length (a .stages) → b .count ≤ length (b .stages)

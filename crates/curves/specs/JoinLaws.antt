@@ -10,7 +10,8 @@ use lib.ListN.{length, length-append}
 use Rattle.curves.specs.declared.Stage.{Stage}
 use Rattle.curves.specs.Slots.{lowest, conv}
 use Rattle.curves.specs.Curve.{Shape, line, leastLine, valueAt, neutral, joined, All, Rates, Below, Under}
-use Rattle.curves.specs.SlotsLaws.{le-or-lt, lowest-le, le-lowest}
+use Rattle.ground.specs.OrderLaws.{le-or-lt}
+use Rattle.curves.specs.SlotsLaws.{lowest-le, le-lowest}
 use Rattle.curves.specs.StageLaws.{all-append, all-front, all-back, below-mono}
 use Rattle.curves.specs.CurveLaws.{value-before, value-after, under-of-value, value-of-under}
 
@@ -25,10 +26,6 @@ neutral-joined c = rw zero-add
 pub joined-assoc : (c d e : Shape) → joined (joined c d) e ≡ joined c (joined d e)
 unfolding joined
 joined-assoc c d e = rw (append-assoc, add-assoc)
-
-pub joined-offset : (c d : Shape) → joined c d .offset ≡ c .offset + d .offset
-unfolding joined
-joined-offset c d = refl
 
 pub joined-length : (c d : Shape) → length (joined c d .stages) ≡ length (c .stages) + length (d .stages)
 unfolding joined

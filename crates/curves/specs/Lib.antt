@@ -10,5 +10,6 @@ pub mod RemainderLaws
 pub mod DelayLaws
 pub mod HeldLaws
 pub mod PartLaws
-pub mod Unique
 pub mod Figures
+pub mod Contract
+pub mod Unique

@@ -16,7 +16,8 @@ use Rattle.curves.specs.Part.{changed, lagIn, leftIn}
 
 -- entries that are changed, and others
 
-pub changed-inside : {A : Type 0} (f : A → A) (a b : ℕ) (l : List A) (j : ℕ) (z : A) → a ≤ j → j < b → j < length l → getD (changed f a b l) j z ≡ f (getD l j z)
+pub changed-inside : {A : Type 0} (f : A → A) (a b : ℕ) (l : List A) (j : ℕ) (z : A) → a ≤ j → j < b → j < length l
+    → getD (changed f a b l) j z ≡ f (getD l j z)
 changed-inside f a b [] j z p q h = absurd (omega arith)
 changed-inside f zero zero (x ∷ l) j z p q h = absurd (omega arith)
 changed-inside f zero (suc b) (x ∷ l) zero z p q h = refl
@@ -53,7 +54,8 @@ all-slice P (suc a) (suc b) (s ∷ l) zero z h p q r = absurd (omega arith)
 all-slice P (suc a) (suc b) (s ∷ l) (suc j) z h p q r = all-slice P a b l j z h (omega arith) (omega arith) (omega arith)
 
 -- one more is changed
-pub changed-more : {A : Type 0} (f : A → A) (a i : ℕ) (l : List A) (z : A) → a ≤ i → i < length l → set (changed f a i l) i (f (getD l i z)) ≡ changed f a (suc i) l
+pub changed-more : {A : Type 0} (f : A → A) (a i : ℕ) (l : List A) (z : A) → a ≤ i → i < length l → set (changed f a i l) i (f (getD l i z))
+    ≡ changed f a (suc i) l
 changed-more f a i [] z p q = absurd (omega arith)
 changed-more f zero zero (x ∷ []) z p q = refl
 changed-more f zero zero (x ∷ y ∷ l) z p q = refl
@@ -130,7 +132,8 @@ all-whole P c h = rw (whole-part c) h
 -- the slots until stages that serve have σ bytes are at most σ
 pub lag-le : (c : Shape) (a b σ : ℕ) → Rates 1 (slice a b (c .stages)) → lagIn c a b σ ≤ σ
 lag-le c a b σ h =
-    greatest-le (catchUp σ) σ (slice a b (c .stages)) (all-weaken (λ s. 1 ≤ s .rate) (λ s. catchUp σ s ≤ σ) (slice a b (c .stages)) (λ s k. catch-up-le σ s k) h)
+    greatest-le (catchUp σ) σ (slice a b (c .stages))
+    (all-weaken (λ s. 1 ≤ s .rate) (λ s. catchUp σ s ≤ σ) (slice a b (c .stages)) (λ s k. catch-up-le σ s k) h)
 
 -- the next of a part of the first n
 pub next-slice : (l : List Stage) (n i to : ℕ) → i < to → to ≤ n → n ≤ length l → slice i to (take n l) ≡ getD l i blank ∷ slice (suc i) to (take n l)

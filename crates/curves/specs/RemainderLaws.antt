@@ -10,7 +10,8 @@ use lib.ListN.{length, length-map}
 use Rattle.curves.specs.declared.Stage.{Stage}
 use Rattle.curves.specs.Slots.{left}
 use Rattle.curves.specs.Curve.{Shape, line, leastLine, valueAt, leastWait, after, remainder, All, Rates, Below, Under}
-use Rattle.curves.specs.SlotsLaws.{le-or-lt, zero-before, zero-after}
+use Rattle.ground.specs.OrderLaws.{le-or-lt}
+use Rattle.curves.specs.SlotsLaws.{zero-before, zero-after}
 use Rattle.curves.specs.StageLaws.{all-map, below-mono}
 use Rattle.curves.specs.CurveLaws.{value-before, value-after, wait-after-offset, wait-enough}
 

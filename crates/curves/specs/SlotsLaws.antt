@@ -7,15 +7,8 @@ use native.Mathlib.Nat.{lt-of-not-le}
 use native.Mathlib.Decide.{decLe}
 use native.Mathlib.Omega.{arith}
 use borrow.Author.Tests.{le-leb, lt-leb}
+use Rattle.ground.specs.OrderLaws.{le-or-lt}
 use Rattle.curves.specs.Slots.{lowest, zeroUpTo, Least}
-
--- two numbers stand in one order or the other
-pub le-or-lt : (m n : ℕ) → (m ≤ n) ⊎ (n < m)
-le-or-lt m n = go (decLe m n)
-  where
-    go : Dec (m ≤ n) → (m ≤ n) ⊎ (n < m)
-    go (yes h) = inl h
-    go (no h) = inr (lt-of-not-le h)
 
 pub lowest-le : (n s : ℕ) (f : ℕ → ℕ) → s ≤ n → lowest n f ≤ f s
 unfolding lowest

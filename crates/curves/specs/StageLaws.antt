@@ -9,7 +9,7 @@ use native.Mathlib.Omega.{arith}
 use lib.ListN.{length, take, getD}
 use Rattle.curves.specs.declared.Stage.{Stage}
 use Rattle.curves.specs.Curve.{line, ceil, greatest, catchUp, lateness, All, Rates, Below}
-use Rattle.curves.specs.SlotsLaws.{le-or-lt}
+use Rattle.ground.specs.OrderLaws.{le-or-lt}
 
 -- what holds of each stage
 

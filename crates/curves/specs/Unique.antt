@@ -1,43 +1,37 @@
--- Each public function leaves one possible result: its contract is an equation, and two results that both meet it are equal.
+-- Each public method leaves one possible result: two results that both meet its contract are equal.
 -- Assumes nothing.
 use mathlib.Core.Path.{_≡_, sym, _∙_}
-use Prim.Native.Nat.{ℕ, max}
-use lib.ListN.{drop, replicate}
+use Prim.Native.Nat.{ℕ}
 use Rattle.curves.specs.declared.Stage.{Stage}
 use Rattle.curves.specs.declared.Curve.{Curve}
-use Rattle.curves.specs.Curve.{neutral, server, joined, after, remainder, catchUp, leastWait, delay}
-use Rattle.curves.specs.Held.{shapeOf, spare, held, blank}
-use Rattle.curves.specs.Part.{lagIn, leftIn}
+use Rattle.curves.specs.Contract.{CatchUp, After, None, Server, Join, Lag, Left, LeastWait, Remainder, Delay}
 
-pub catch-up-unique : (s : Stage) (σ most a b : ℕ) → a ≡ max most (catchUp σ s) → b ≡ max most (catchUp σ s) → a ≡ b
-catch-up-unique s σ most a b h k = h ∙ sym k
+pub catch-up-unique : (s : Stage) (σ most : ℕ) (a b : ℕ) → CatchUp s σ most a → CatchUp s σ most b → a ≡ b
+catch-up-unique s σ most a b h k = h .is ∙ sym (k .is)
 
-pub after-unique : (s : Stage) (σ ρ x : ℕ) (a b : Stage) → a ≡ after σ ρ x s → b ≡ after σ ρ x s → a ≡ b
-after-unique s σ ρ x a b h k = h ∙ sym k
+pub after-unique : (s : Stage) (σ ρ x : ℕ) (a b : Stage) → After s σ ρ x a → After s σ ρ x b → a ≡ b
+after-unique s σ ρ x a b h k = h .is ∙ sym (k .is)
 
-pub none-unique : (a b : Curve) → a ≡ held neutral (replicate 16 blank) → b ≡ held neutral (replicate 16 blank) → a ≡ b
-none-unique a b h k = h ∙ sym k
+pub none-unique : (a b : Curve) → None a → None b → a ≡ b
+none-unique a b h k = h .is ∙ sym (k .is)
 
-pub server-unique : (R T : ℕ) (a b : Curve) → a ≡ held (server R T) (replicate 15 blank) → b ≡ held (server R T) (replicate 15 blank) → a ≡ b
-server-unique R T a b h k = h ∙ sym k
+pub server-unique : (R T : ℕ) (a b : Curve) → Server R T a → Server R T b → a ≡ b
+server-unique R T a b h k = h .is ∙ sym (k .is)
 
-pub join-unique : (c d a b : Curve) → a ≡ held (joined (shapeOf c) (shapeOf d)) (drop (d .count) (spare c))
-    → b ≡ held (joined (shapeOf c) (shapeOf d)) (drop (d .count) (spare c)) → a ≡ b
-join-unique c d a b h k = h ∙ sym k
+pub join-unique : (c d : Curve) (a b : Curve) → Join c d a → Join c d b → a ≡ b
+join-unique c d a b h k = h .is ∙ sym (k .is)
 
-pub remainder-unique : (c : Curve) (σ ρ θ : ℕ) (a b : Curve) → a ≡ held (remainder (shapeOf c) σ ρ θ) (spare c)
-    → b ≡ held (remainder (shapeOf c) σ ρ θ) (spare c) → a ≡ b
-remainder-unique c σ ρ θ a b h k = h ∙ sym k
+pub lag-unique : (c : Curve) (from to σ : ℕ) (a b : ℕ) → Lag c from to σ a → Lag c from to σ b → a ≡ b
+lag-unique c from to σ a b h k = h .is ∙ sym (k .is)
 
-pub least-wait-unique : (c : Curve) (σ a b : ℕ) → a ≡ leastWait (shapeOf c) σ → b ≡ leastWait (shapeOf c) σ → a ≡ b
-least-wait-unique c σ a b h k = h ∙ sym k
+pub left-unique : (c : Curve) (from to σ ρ x : ℕ) (a b : Curve) → Left c from to σ ρ x a → Left c from to σ ρ x b → a ≡ b
+left-unique c from to σ ρ x a b h k = h .is ∙ sym (k .is)
 
-pub delay-unique : (c : Curve) (σ ρ a b : ℕ) → a ≡ delay (shapeOf c) σ ρ → b ≡ delay (shapeOf c) σ ρ → a ≡ b
-delay-unique c σ ρ a b h k = h ∙ sym k
+pub least-wait-unique : (c : Curve) (σ : ℕ) (a b : ℕ) → LeastWait c σ a → LeastWait c σ b → a ≡ b
+least-wait-unique c σ a b h k = h .is ∙ sym (k .is)
 
-pub lag-unique : (c : Curve) (from to σ a b : ℕ) → a ≡ lagIn (shapeOf c) from to σ → b ≡ lagIn (shapeOf c) from to σ → a ≡ b
-lag-unique c from to σ a b h k = h ∙ sym k
+pub remainder-unique : (c : Curve) (σ ρ θ : ℕ) (a b : Curve) → Remainder c σ ρ θ a → Remainder c σ ρ θ b → a ≡ b
+remainder-unique c σ ρ θ a b h k = h .is ∙ sym (k .is)
 
-pub left-unique : (c : Curve) (from to σ ρ x : ℕ) (a b : Curve) → a ≡ held (leftIn (shapeOf c) from to σ ρ x) (spare c)
-    → b ≡ held (leftIn (shapeOf c) from to σ ρ x) (spare c) → a ≡ b
-left-unique c from to σ ρ x a b h k = h ∙ sym k
+pub delay-unique : (c : Curve) (σ ρ : ℕ) (a b : ℕ) → Delay c σ ρ a → Delay c σ ρ b → a ≡ b
+delay-unique c σ ρ a b h k = h .is ∙ sym (k .is)

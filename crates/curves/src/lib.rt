@@ -1,12 +1,10 @@
 // Curves: what a stretch of servers guarantees, as an offset and stages (document 01, "Curves"). A curve is handed on whole, and a
 // new curve or a number comes back.
-ghost use mathlib.Core.Path.{_≡_};
-ghost use Prim.Native.Nat.{_+_, _≤_, _<_, _^_, max};
-ghost use lib.ListN.{drop, replicate};
+ghost use Prim.Native.Nat.{_+_, _≤_, _<_, _^_};
 ghost use lib.Seq.{slice};
-ghost use Rattle.curves.specs.Curve.{All, neutral, server, joined, after, remainder, catchUp, leastWait, delay};
-ghost use Rattle.curves.specs.Held.{shapeOf, spare, held, Holds, blank, Live, Leaves, InRange, Leaving};
-ghost use Rattle.curves.specs.Part.{lagIn, leftIn};
+ghost use Rattle.curves.specs.Curve.{All, server, after, remainder, delay};
+ghost use Rattle.curves.specs.Held.{shapeOf, Live, Leaves, InRange, Leaving};
+ghost use Rattle.curves.specs.Contract.{CatchUp, After, None, Server, Join, Lag, Left, LeastWait, Remainder, Delay};
 
 // A line that begins at `burst` bytes and rises by `rate` a slot.
 pub struct Stage {
@@ -25,7 +23,7 @@ impl Stage {
     // The slots until the stage has `sigma` bytes, or `most` if that is more.
     pub fn catch_up(self, sigma: u64, most: u64) -> u64
         requires { ⌜ Live self × (sigma < 2 ^ 40) × (most ≤ sigma) ⌝ }
-        ensures { λ r. ⌜ r ≡ max most (catchUp sigma self) ⌝ }
+        ensures { λ r. ⌜ CatchUp self sigma most r ⌝ }
     {
         if self.burst + self.rate * most < sigma {
             (sigma - self.burst + (self.rate - 1)) / self.rate
@@ -37,7 +35,7 @@ impl Stage {
     // What a group leaves of the stage, `gap` slots after the curve's offset.
     pub fn after(self, sigma: u64, rho: u64, gap: u64) -> Stage
         requires { ⌜ Leaves sigma rho gap self ⌝ }
-        ensures { λ r. ⌜ r ≡ after sigma rho gap self ⌝ }
+        ensures { λ r. ⌜ After self sigma rho gap r ⌝ }
     {
         Stage {
             burst: self.burst + self.rate * gap - sigma,
@@ -49,7 +47,7 @@ impl Stage {
 impl Curve {
     // The curve of no server: joined to a curve, it gives that curve.
     pub fn none() -> Curve
-        ensures { λ r. ⌜ (r ≡ held neutral (replicate 16 blank)) × Holds r neutral ⌝ }
+        ensures { λ r. ⌜ None r ⌝ }
     {
         let z = Stage { burst: 0, rate: 0 };
         let stages = [z; 16];
@@ -62,7 +60,7 @@ impl Curve {
 
     // The curve of one server.
     pub fn server(rate: u64, latency: u64) -> Curve
-        ensures { λ r. ⌜ (r ≡ held (server rate latency) (replicate 15 blank)) × Holds r (server rate latency) ⌝ }
+        ensures { λ r. ⌜ Server rate latency r ⌝ }
     {
         let z = Stage { burst: 0, rate: 0 };
         let mut stages = [z; 16];
@@ -80,7 +78,7 @@ impl Curve {
     // The curve of two stretches in series: the offsets add up, and the stages of both stand in order.
     pub fn join(self, other: Curve) -> Curve
         requires { ⌜ (self .count + other .count ≤ 16) × (self .offset + other .offset < 2 ^ 63) ⌝ }
-        ensures { λ r. ⌜ (r ≡ held (joined (shapeOf self) (shapeOf other)) (drop (other .count) (spare self))) × Holds r (joined (shapeOf self) (shapeOf other)) ⌝ }
+        ensures { λ r. ⌜ Join self other r ⌝ }
     {
         let mut r = self;
         let at = self.count;
@@ -98,7 +96,7 @@ impl Curve {
     // The slots until the stages from `from` up to before `to` have `sigma` bytes.
     pub fn lag(self, from: usize, to: usize, sigma: u64) -> u64
         requires { ⌜ (to ≤ self .count) × (self .count ≤ 16) × All Live (slice from to (shapeOf self .stages)) × (sigma < 2 ^ 40) ⌝ }
-        ensures { λ r. ⌜ r ≡ lagIn (shapeOf self) from to sigma ⌝ }
+        ensures { λ r. ⌜ Lag self from to sigma r ⌝ }
     {
         let mut most: u64 = 0;
         let mut i = from;
@@ -113,7 +111,7 @@ impl Curve {
     // What a group (sigma, rho) leaves of the stages from `from` up to before `to`, `gap` slots after the offset; the others stay.
     pub fn left(self, from: usize, to: usize, sigma: u64, rho: u64, gap: u64) -> Curve
         requires { ⌜ (from ≤ to) × (to ≤ self .count) × (self .count ≤ 16) × All (Leaves sigma rho gap) (slice from to (shapeOf self .stages)) × (self .offset + gap < 2 ^ 64) ⌝ }
-        ensures { λ r. ⌜ (r ≡ held (leftIn (shapeOf self) from to sigma rho gap) (spare self)) × Holds r (leftIn (shapeOf self) from to sigma rho gap) ⌝ }
+        ensures { λ r. ⌜ Left self from to sigma rho gap r ⌝ }
     {
         let mut r = self;
         let mut i = from;
@@ -129,7 +127,7 @@ impl Curve {
     // The least wait for a group with burst `sigma`.
     pub fn least_wait(self, sigma: u64) -> u64
         requires { ⌜ InRange self × (sigma < 2 ^ 40) ⌝ }
-        ensures { λ r. ⌜ r ≡ leastWait (shapeOf self) sigma ⌝ }
+        ensures { λ r. ⌜ LeastWait self sigma r ⌝ }
     {
         self.offset + self.lag(0, self.count, sigma)
     }
@@ -137,7 +135,7 @@ impl Curve {
     // What a group (sigma, rho) leaves of the curve after a wait.
     pub fn remainder(self, sigma: u64, rho: u64, wait: u64) -> Curve
         requires { ⌜ Leaving self sigma rho wait ⌝ }
-        ensures { λ r. ⌜ (r ≡ held (remainder (shapeOf self) sigma rho wait) (spare self)) × Holds r (remainder (shapeOf self) sigma rho wait) ⌝ }
+        ensures { λ r. ⌜ Remainder self sigma rho wait r ⌝ }
     {
         self.left(0, self.count, sigma, rho, wait - self.offset)
     }
@@ -145,7 +143,7 @@ impl Curve {
     // The delay of a bucket (sigma, rho): one slot less than the least wait for what it may send in its first slot.
     pub fn delay(self, sigma: u64, rho: u64) -> u64
         requires { ⌜ InRange self × (sigma + rho < 2 ^ 40) ⌝ }
-        ensures { λ r. ⌜ r ≡ delay (shapeOf self) sigma rho ⌝ }
+        ensures { λ r. ⌜ Delay self sigma rho r ⌝ }
     {
         let wait = self.least_wait(sigma + rho);
         if self.offset < wait { wait - 1 } else { wait }

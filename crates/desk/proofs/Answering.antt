@@ -2,22 +2,21 @@
 -- Assumes nothing.
 use Prim.Native.Nat.{ℕ, _+_, _-_, _*_, _^_, _≤_, _<_}
 use mathlib.Core.Path.{_≡_, refl, sym, ap, _∙_, subst}
-use mathlib.Core.Bool.{Bool, true, false}
 use mathlib.Core.List.{List, [], _∷_, _++_}
 use native.Mathlib.Omega.{arith}
 use lib.ListN.{length, getD, take, replicate, length-append, length-replicate, List·getD-append}
 use lib.Seq.{take-at}
 use Rattle.numbers.specs.SevenLaws.{Bytes}
-use Rattle.sheet.specs.Sheet.{fail, sheetOf}
-use Rattle.row.specs.declared.Flow.{Flow}
-use Rattle.row.specs.OfSheet.{padded, rowOf}
-use Rattle.analysis.specs.declared.Judged.{Judged}
+use Rattle.fields.specs.declared.Why.{Why}
+use Rattle.tandem.specs.declared.Flow.{Flow}
+use Rattle.row.specs.RowFor.{padded}
+use Rattle.row.specs.OfSheet.{rowOf}
 use Rattle.analysis.specs.declared.Judged.the-variants.{Refused, Bounded}
 use Rattle.analysis.specs.declared.Analysed.{Analysed}
-use Rattle.analysis.specs.Verdict.{Listing, listingOf, Verdict, refused, bounded, verdictOf, isBounded, judgedDetail, recordNumbers}
-use Rattle.analysis.specs.Held.{blank, filled, analysedOf}
-use Rattle.analysis.specs.VerdictLaws.{Said, refusing, listing, said, Cause, of-bytes, of-row, Small, listing-small}
-use Rattle.desk.specs.DetailLaws.{read-place}
+use Rattle.analysis.specs.Verdict.{Listing, listingOf, refused, bounded, verdictOf, recordNumbers}
+use Rattle.analysis.specs.Held.{filled, analysedOf}
+use Rattle.analysis.specs.VerdictLaws.{Case, refusing, listing, case-of, Cause, of-bytes, of-row, Small, listing-small}
+use Rattle.sheet.specs.DetailLaws.{read-place}
 use Rattle.desk.specs.Record.{recordIn, Fits}
 
 -- a listing as it is held: its waits at the front, zeros behind
@@ -35,18 +34,20 @@ filled-fits flows l s =
       long = length-append (l .waits) (replicate (32 - length (l .waits)) 0) ∙ omega (arith, length-replicate {A = ℕ} (32 - length (l .waits)) 0, s .each, s .few);
     }
 
+-- a bound: the verdict's listing, whose numbers fit and are the record's
 pub record Listed (bytes : List ℕ) (a : Analysed) : Type 0 where
   pub listing-of : Listing
   pub verdict : verdictOf bytes ≡ bounded listing-of
   pub fits : Fits a
   pub numbers : recordIn a ≡ recordNumbers listing-of
+  pub few : length (recordNumbers listing-of) ≤ 36
 
-pub listed : (bytes : List ℕ) (a : Analysed) → a ≡ analysedOf bytes → isBounded (a .judged) ≡ true → Listed bytes a
-listed bytes a e b = by (said bytes)
+pub listed : (bytes : List ℕ) (a : Analysed) → a ≡ analysedOf bytes → a .judged ≡ Bounded → Listed bytes a
+listed bytes a e b = by (case-of bytes)
   where
-    by : Said bytes → Listed bytes a
-    by (refusing j c v h n) =
-        let q : isBounded (a .judged) ≡ isBounded j = ap (λ (x : Analysed). isBounded (x .judged)) (e ∙ h) in
+    by : Case bytes → Listed bytes a
+    by (refusing w d c v h) =
+        let q : Refused w d ≡ Bounded = sym (ap (λ (x : Analysed). x .judged) (e ∙ h)) ∙ b in
         let z : _≡_ {A = ℕ} 0 1 = cc in
         absurd (omega arith)
     by (listing xs s v p w h) =
@@ -56,24 +57,28 @@ listed bytes a e b = by (said bytes)
           verdict = w;
           fits = subst (λ (x : Analysed). Fits x) (sym (e ∙ h)) (filled-fits (rowOf xs .groups) (listingOf xs) l);
           numbers = ap recordIn (e ∙ h) ∙ rw (waits-held (listingOf xs) l);
+          few = omega (arith, l .each, l .few);
         }
 
-pub record Turned (bytes : List ℕ) (a : Analysed) : Type 0 where
-  pub verdict : verdictOf bytes ≡ refused (a .judged)
-  pub small : judgedDetail (a .judged) < 4294967296
+-- a refusal: the verdict's, whose detail is small
+pub record Turned (bytes : List ℕ) (w : Why) (d : ℕ) : Type 0 where
+  pub verdict : verdictOf bytes ≡ refused w d
+  pub small : d < 4294967296
 
-detail-small : (bytes : List ℕ) (j : Judged) → Bytes bytes → Cause bytes j → judgedDetail j < 4294967296
-detail-small bytes j s (of-bytes w d e f) = rw e (omega (arith, read-place bytes w d s f))
-detail-small bytes j s (of-row h) = omega arith
+detail-small : (bytes : List ℕ) (w : Why) (d : ℕ) → Bytes bytes → Cause bytes w d → d < 4294967296
+detail-small bytes w d s (of-bytes e) = omega (arith, read-place bytes w d s e)
+detail-small bytes w d s (of-row h) = omega arith
 
-pub turned : (bytes : List ℕ) (a : Analysed) → Bytes bytes → a ≡ analysedOf bytes → isBounded (a .judged) ≡ false → Turned bytes a
-turned bytes a s e b = by (said bytes)
+pub turned : (bytes : List ℕ) (a : Analysed) (w : Why) (d : ℕ) → Bytes bytes → a ≡ analysedOf bytes → a .judged ≡ Refused w d → Turned bytes w d
+turned bytes a w d s e b = by (case-of bytes)
   where
-    by : Said bytes → Turned bytes a
-    by (refusing j c v h n) =
-        let q : a .judged ≡ j = ap (λ (x : Analysed). x .judged) (e ∙ h) in
-        record { verdict = v ∙ ap refused (sym q); small = rw q (detail-small bytes j s c) }
-    by (listing xs r v p w h) =
-        let q : isBounded (a .judged) ≡ true = ap (λ (x : Analysed). isBounded (x .judged)) (e ∙ h) in
+    by : Case bytes → Turned bytes w d
+    by (refusing w′ d′ c v h) =
+        let q : Refused w′ d′ ≡ Refused w d = sym (ap (λ (x : Analysed). x .judged) (e ∙ h)) ∙ b in
+        let p : w′ ≡ w = cc in
+        let r : d′ ≡ d = cc in
+        record { verdict = v ∙ rw (p, r); small = rw (← r) (detail-small bytes w′ d′ s c) }
+    by (listing xs r v p u h) =
+        let q : Bounded ≡ Refused w d = sym (ap (λ (x : Analysed). x .judged) (e ∙ h)) ∙ b in
         let z : _≡_ {A = ℕ} 0 1 = cc in
         absurd (omega arith)

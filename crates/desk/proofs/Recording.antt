@@ -9,10 +9,10 @@ use native.Mathlib.Omega.{arith}
 use lib.ListN.{length, getD, take, drop, set, length-set}
 use lib.Seq.{take-suc, take-suc-set, sets, sets-eq}
 use borrow.Author.Tests.{lt-ltb, le-ltb}
-use Rattle.sheet.specs.Sheet.{encodeAll}
+use Rattle.fields.specs.declared.Outcome.the-variants.{Done, Refused}
+use Rattle.fields.specs.declared.Why.the-variants.{Short}
+use Rattle.sheet.specs.Sheet.{encodeAll, gives, holds}
 use Rattle.analysis.specs.declared.Analysed.{Analysed}
-use Rattle.desk.specs.Packed.{asOne}
-use Rattle.desk.specs.Record.{putGives, putHolds}
 
 pub record Recording (a : Analysed) (numbers : List ℕ) (i : ℕ) : Type 0 where
   pub few : i ≤ a .count
@@ -32,11 +32,12 @@ turn {a} {numbers} {i} g h n l =
 
 -- the buffer is too short, or has room
 pub too-short : (numbers answer : List ℕ) → length answer < length (encodeAll numbers)
-    → (asOne 10 (length (encodeAll numbers)) ≡ putGives numbers (length answer)) × (answer ≡ putHolds numbers answer)
+    → (Refused Short (length (encodeAll numbers)) ≡ gives (length (encodeAll numbers)) (length answer)) × (answer ≡ holds (encodeAll numbers) answer)
 too-short numbers answer h = let l = lt-ltb (length answer) (length (encodeAll numbers)) h in (rw l, rw l)
 
 pub has-room : (numbers answer : List ℕ) → length (encodeAll numbers) ≤ length answer
-    → (asOne 0 (length (encodeAll numbers)) ≡ putGives numbers (length answer)) × (sets answer 0 (encodeAll numbers) ≡ putHolds numbers answer)
+    → (Done (length (encodeAll numbers)) ≡ gives (length (encodeAll numbers)) (length answer))
+    × (sets answer 0 (encodeAll numbers) ≡ holds (encodeAll numbers) answer)
 has-room numbers answer h =
     let l = le-ltb (length answer) (length (encodeAll numbers)) h in
     (rw l, rw l (sets-eq (encodeAll numbers) answer 0 (omega arith) ∙ rw zero-add))

@@ -9,9 +9,9 @@ use Rattle.numbers.specs.declared.Got.the-variants.{Number}
 use Rattle.numbers.specs.Seven.{encode, numberAt}
 use Rattle.sheet.specs.Sheet.{these, sheetOf, encodeAll}
 use Rattle.sheet.specs.Valid.{mode}
-use Rattle.row.specs.Tandem.{size}
+use Rattle.tandem.specs.Tandem.{size}
 use Rattle.row.specs.Groups.{groups}
-use Rattle.row.specs.OfSheet.{tandemOf}
+use Rattle.tandem.specs.OfSheet.{tandemOf}
 use Rattle.tree.specs.Grid.{Answer}
 use Rattle.tree.specs.Chosen.{Chosen}
 use Rattle.runs.specs.Run.{Run, Keeps}

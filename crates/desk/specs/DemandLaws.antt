@@ -13,21 +13,20 @@ use Rattle.numbers.specs.SevenLaws.{Bytes, read-written}
 use Rattle.sheet.specs.Sheet.{these, sheetOf}
 use Rattle.sheet.specs.Valid.{Valid, mode}
 use Rattle.sheet.specs.FrontLaws.{front-verdict}
-use Rattle.sheet.specs.TripLaws.{read-valid}
+use Rattle.sheet.specs.ValidLaws.{read-valid}
 use Rattle.sheet.specs.AcceptLaws.{read-refused}
-use Rattle.row.specs.Tandem.{size}
-use Rattle.row.specs.OfSheet.{tandemOf}
-use Rattle.row.specs.OfSheetLaws.{passed-row}
+use Rattle.tandem.specs.Tandem.{size}
+use Rattle.tandem.specs.OfSheet.{tandemOf}
+use Rattle.row.specs.OfSheetLaws.{grid-range, passed-row}
 use Rattle.tree.specs.Bound.{searched}
 use Rattle.tree.specs.Chosen.{Chosen}
 use Rattle.tree.specs.ChosenLaws.{searched-chosen, chosen-unique}
 use Rattle.runs.specs.Run.{Run, Keeps}
 use Rattle.runs.specs.Demand.{OnTime, Within, boundOf}
 use Rattle.runs.specs.DemandLaws.{demand-three, demand-three-in-order}
-use Rattle.analysis.specs.SearchLaws.{grid-held}
 use Rattle.analysis.specs.Verdict.{gridUsed, listingOf, verdictOf}
 use Rattle.analysis.specs.VerdictLaws.{listing-small}
-use Rattle.desk.specs.Unique.{Analysing}
+use Rattle.desk.specs.Contract.{GullbiscuitAnalyse}
 use Rattle.desk.specs.Says.{Passes, answerOf, Says, of-bytes, six, seven, eight, ten, answers}
 use Rattle.desk.specs.SaysLaws.{passes, success-says}
 use Rattle.desk.specs.Answered.{answerRecord, Answered}
@@ -55,13 +54,13 @@ answer-of s before r after xs read p d h =
       first = rw (h, append-assoc)
           (read-written [] (found .best .delay) _ (omega (arith, listing-small xs valid passed .bound))
           ∙ ap (Number (found .best .delay)) (zero-add (length (encode (found .best .delay)))));
-      chosen = searched-chosen (tandemOf xs) ok (mode xs) (gridUsed xs) (valid .modes .most) (omega (arith, grid-held xs valid passed .0));
+      chosen = searched-chosen (tandemOf xs) ok (mode xs) (gridUsed xs) (valid .modes .most) (omega (arith, grid-range xs valid .0));
       on-time = demand-three s xs read passed;
       in-order = demand-three-in-order s xs read passed;
     }
 
 -- success is refusal 0, that is a number below 2^32
-pub answered : (s before : List ℕ) (r : ℕ) (after : List ℕ) → Analysing s before r after → r < 4294967296 → Answered s before r after
+pub answered : (s before : List ℕ) (r : ℕ) (after : List ℕ) → GullbiscuitAnalyse s before r after → r < 4294967296 → Answered s before r after
 answered s before r after call h = by (success-says s before r after call h)
   where
     by : Says s before 0 r after → Answered s before r after

@@ -8,8 +8,10 @@ use mathlib.Core.List.{List, _++_}
 use native.Mathlib.Omega.{arith}
 use lib.ListN.{length, drop}
 use borrow.Author.Tests.{lt-ltb, le-ltb}
-use Rattle.numbers.specs.SevenLaws.{lt-or-ge, Bytes}
-use Rattle.sheet.specs.Refusal.{refusal}
+use Rattle.ground.specs.OrderLaws.{lt-or-ge}
+use Rattle.numbers.specs.SevenLaws.{Bytes}
+use Rattle.fields.specs.declared.Why.the-variants.{Short}
+use Rattle.fields.specs.Refusal.{refusal}
 use Rattle.sheet.specs.Sheet.{Found, fail, these, sheetOf, listOf, encodeAll, readGives, readHolds, writeGives, writeHolds}
 use Rattle.sheet.specs.Valid.{Valid, IsSheet}
 use Rattle.sheet.specs.ValidLaws.{listed-valid, valid-listed}
@@ -17,19 +19,19 @@ use Rattle.sheet.specs.WalkLaws.{list-whole}
 use Rattle.sheet.specs.AcceptLaws.{read-is-sheet, sheet-is-read, read-refused, list-refused}
 use Rattle.desk.specs.Packed.{asOne, packed}
 use Rattle.desk.specs.Says.{Refused}
-use Rattle.desk.specs.Unique.{Read, Written}
-use Rattle.desk.specs.DetailLaws.{read-place, list-place, read-count, list-count, encode-all-few}
+use Rattle.desk.specs.Contract.{GullbiscuitReadSheet, GullbiscuitWriteSheet}
+use Rattle.sheet.specs.DetailLaws.{read-place, list-place, read-count, list-count, encode-all-few}
 
 -- the reader
 
-module _ (s before : List ℕ) (r : ℕ) (after : List ℕ) (call : Read s before r after) where
+module _ (s before : List ℕ) (r : ℕ) (after : List ℕ) (call : GullbiscuitReadSheet s before r after) where
   read-given : (f : Found) → sheetOf s ≡ f → r ≡ packed (readGives f (length before))
   read-given f e = call .gives ∙ ap (λ (f : Found). packed (readGives f (length before))) e
 
   read-held : (f : Found) → sheetOf s ≡ f → after ≡ readHolds f before
   read-held f e = call .holds ∙ ap (λ (f : Found). readHolds f before) e
 
-  read-short : (xs : List ℕ) → sheetOf s ≡ these xs → length before < length xs → (r ≡ asOne 10 (length xs)) × (after ≡ before)
+  read-short : (xs : List ℕ) → sheetOf s ≡ these xs → length before < length xs → (r ≡ asOne (refusal Short) (length xs)) × (after ≡ before)
   read-short xs e l =
       let t = lt-ltb (length before) (length xs) l in
       (rw t at (read-given (these xs) e), rw t at (read-held (these xs) e))
@@ -44,7 +46,7 @@ module _ (s before : List ℕ) (r : ℕ) (after : List ℕ) (call : Read s befor
     where
       by-room : (xs : List ℕ) → sheetOf s ≡ these xs → (length before < length xs) ⊎ (length xs ≤ length before) → Refused before r after
       by-room xs e (inl l) = record {
-        number = 10;
+        number = refusal Short;
         detail = length xs;
         one = read-short xs e l .0;
         small = omega (arith, read-count s xs e);
@@ -81,12 +83,12 @@ module _ (s before : List ℕ) (r : ℕ) (after : List ℕ) (call : Read s befor
   pub sheet-accepted : (xs : List ℕ) → IsSheet s xs → length xs ≤ length before → r ≡ length xs
   sheet-accepted xs is l = omega (arith, read-whole xs (sheet-is-read s xs is) l .0)
 
-  pub sheet-too-long : (xs : List ℕ) → IsSheet s xs → length before < length xs → r ≡ asOne 10 (length xs)
+  pub sheet-too-long : (xs : List ℕ) → IsSheet s xs → length before < length xs → r ≡ asOne (refusal Short) (length xs)
   sheet-too-long xs is l = read-short xs (sheet-is-read s xs is) l .0
 
 -- the writer
 
-module _ (xs before : List ℕ) (r : ℕ) (after : List ℕ) (call : Written xs before r after) where
+module _ (xs before : List ℕ) (r : ℕ) (after : List ℕ) (call : GullbiscuitWriteSheet xs before r after) where
   abbrev size : ℕ
   size = length (encodeAll xs)
 
@@ -96,7 +98,7 @@ module _ (xs before : List ℕ) (r : ℕ) (after : List ℕ) (call : Written xs 
   write-held : (f : Found) → listOf xs ≡ f → after ≡ writeHolds f before
   write-held f e = call .holds ∙ ap (λ (f : Found). writeHolds f before) e
 
-  write-short : listOf xs ≡ these xs → length before < size → (r ≡ asOne 10 size) × (after ≡ before)
+  write-short : listOf xs ≡ these xs → length before < size → (r ≡ asOne (refusal Short) size) × (after ≡ before)
   write-short e l =
       let t = lt-ltb (length before) size l in
       (rw t at (write-given (these xs) e), rw t at (write-held (these xs) e))
@@ -115,7 +117,7 @@ module _ (xs before : List ℕ) (r : ℕ) (after : List ℕ) (call : Written xs 
     where
       by-room : listOf xs ≡ these xs → (length before < size) ⊎ (size ≤ length before) → (f : Refused before r after) × (f .number ≡ 2 → ⊥)
       by-room e (inl l) = (
-        record { number = 10; detail = size; one = write-short e l .0; small = size-small e; known = inr refl; stays = write-short e l .1 },
+        record { number = refusal Short; detail = size; one = write-short e l .0; small = size-small e; known = inr refl; stays = write-short e l .1 },
         λ t. omega arith,
       )
       by-room e (inr l) = absurd (omega (arith, write-whole e l .0, size-small e))
@@ -152,5 +154,5 @@ module _ (xs before : List ℕ) (r : ℕ) (after : List ℕ) (call : Written xs 
   pub valid-accepted : Valid xs → size ≤ length before → r ≡ size
   valid-accepted v l = omega (arith, write-whole (valid-listed xs v) l .0)
 
-  pub valid-too-long : Valid xs → length before < size → r ≡ asOne 10 size
+  pub valid-too-long : Valid xs → length before < size → r ≡ asOne (refusal Short) size
   valid-too-long v l = write-short (valid-listed xs v) l .0

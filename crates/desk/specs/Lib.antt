@@ -1,6 +1,7 @@
 pub mod Packed
 pub mod Answer
 pub mod Record
+pub mod Contract
 pub mod Unique
 pub mod Says
 pub mod DetailLaws

@@ -2,14 +2,10 @@
 -- Assumes nothing.
 use Prim.Native.Nat.{ℕ, _+_, _≤_, _<_}
 use mathlib.Core.Path.{_≡_}
-use mathlib.Core.Bool.{cond}
 use mathlib.Core.List.{List, [], _∷_}
-use lib.Dec.{ltb}
 use lib.ListN.{length, getD, take}
-use Rattle.sheet.specs.Sheet.{encodeAll, holds}
 use Rattle.analysis.specs.declared.Analysed.{Analysed}
 use Rattle.desk.specs.declared.Record.{Record}
-use Rattle.desk.specs.Packed.{asOne}
 
 -- the numbers of an answer record, from what the analysis holds
 abbrev pub recordIn : Analysed → List ℕ
@@ -29,10 +25,3 @@ pub record Recorded (r : Record) (numbers : List ℕ) : Type 0 where
   pub front : take (r .count) (r .numbers) ≡ numbers
   pub few : r .count ≤ 36
   pub long : length (r .numbers) ≡ 36
-
--- what writing them gives and leaves
-abbrev pub putGives : List ℕ → ℕ → ℕ
-putGives numbers room = cond (ltb room (length (encodeAll numbers))) (asOne 10 (length (encodeAll numbers))) (asOne 0 (length (encodeAll numbers)))
-
-abbrev pub putHolds : List ℕ → List ℕ → List ℕ
-putHolds numbers answer = holds (encodeAll numbers) answer

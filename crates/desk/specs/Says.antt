@@ -6,14 +6,16 @@ use mathlib.Core.Path.{_≡_}
 use mathlib.Core.Logic.{_⊎_}
 use mathlib.Core.List.{List, _++_}
 use lib.ListN.{length, drop}
-use Rattle.sheet.specs.declared.Why.{Why}
-use Rattle.sheet.specs.Refusal.{refusal}
+use Rattle.fields.specs.declared.Why.{Why}
+use Rattle.fields.specs.declared.Why.the-variants.{Crossing, Crowded, Points, Short}
+use Rattle.fields.specs.Refusal.{refusal}
 use Rattle.sheet.specs.Sheet.{fail, these, sheetOf}
 use Rattle.sheet.specs.Valid.{mode}
-use Rattle.row.specs.Tandem.{size}
+use Rattle.tandem.specs.Tandem.{size}
 use Rattle.row.specs.Groups.{groups}
-use Rattle.row.specs.OfSheet.{tandemOf}
-use Rattle.row.specs.Sentences.{Crossed, Crowds, Lowest}
+use Rattle.tandem.specs.OfSheet.{tandemOf}
+use Rattle.tandem.specs.Crowded.{Crowds, Lowest}
+use Rattle.row.specs.Sentences.{Crossed}
 use Rattle.analysis.specs.Verdict.{gridUsed, listingOf, recordOf}
 use Rattle.desk.specs.Packed.{asOne}
 
@@ -40,16 +42,16 @@ pub data Says (s before : List ℕ) (n d : ℕ) (after : List ℕ) : Type 0 wher
   -- 1 to 5: what the reader says of the bytes
   of-bytes : (w : Why) → sheetOf s ≡ fail w d → n ≡ refusal w → after ≡ before → Says s before n d after
   -- 6, "the row is not nested": "0"
-  six : (xs : List ℕ) → sheetOf s ≡ these xs → Crossed (tandemOf xs) → n ≡ 6 → d ≡ 0 → after ≡ before → Says s before n d after
+  six : (xs : List ℕ) → sheetOf s ≡ these xs → Crossed (tandemOf xs) → n ≡ refusal Crossing → d ≡ 0 → after ≡ before → Says s before n d after
   -- 7, "the rates at a server, the watched flow's included, sum above R": "lowest such server"
   seven : (xs : List ℕ) → sheetOf s ≡ these xs → (Crossed (tandemOf xs) → ⊥) → Lowest (tandemOf xs) 1 (size (tandemOf xs)) d
-      → n ≡ 7 → after ≡ before → Says s before n d after
+      → n ≡ refusal Crowded → after ≡ before → Says s before n d after
   -- 8, "mode 0 and g to the power of the number of groups is above 65,536": "number of groups"
   eight : (xs : List ℕ) → sheetOf s ≡ these xs → (Crossed (tandemOf xs) → ⊥) → Uncrowded xs → TooManyPoints xs
-      → n ≡ 8 → d ≡ length (groups (tandemOf xs)) → after ≡ before → Says s before n d after
+      → n ≡ refusal Points → d ≡ length (groups (tandemOf xs)) → after ≡ before → Says s before n d after
   -- 10, "the buffer is too short": "length needed"
   ten : (xs : List ℕ) → sheetOf s ≡ these xs → Passes xs → length before < length (answerOf xs)
-      → n ≡ 10 → d ≡ length (answerOf xs) → after ≡ before → Says s before n d after
+      → n ≡ refusal Short → d ≡ length (answerOf xs) → after ≡ before → Says s before n d after
   -- "refusal 0 and the written length on success"; "bytes past the length stay"
   answers : (xs : List ℕ) → sheetOf s ≡ these xs → Passes xs → length (answerOf xs) ≤ length before
       → n ≡ 0 → d ≡ length (answerOf xs) → after ≡ answerOf xs ++ drop (length (answerOf xs)) before → Says s before n d after
@@ -61,5 +63,5 @@ pub record Refused (before : List ℕ) (r : ℕ) (after : List ℕ) : Type 0 whe
   pub detail : ℕ
   pub one : r ≡ asOne number detail
   pub small : detail < 4294967296
-  pub known : ((1 ≤ number) × (number ≤ 5)) ⊎ (number ≡ 10)
+  pub known : ((1 ≤ number) × (number ≤ 5)) ⊎ (number ≡ refusal Short)
   pub stays : after ≡ before

@@ -9,30 +9,37 @@ use mathlib.Core.List.{List}
 use native.Mathlib.Omega.{arith}
 use lib.ListN.{length}
 use borrow.Author.Tests.{lt-ltb, le-ltb}
-use Rattle.numbers.specs.SevenLaws.{lt-or-ge, Bytes}
-use Rattle.sheet.specs.declared.Why.{Why}
-use Rattle.sheet.specs.Refusal.{refusal}
+use Rattle.ground.specs.OrderLaws.{lt-or-ge, le-or-lt}
+use Rattle.numbers.specs.SevenLaws.{Bytes}
+use Rattle.fields.specs.declared.Why.{Why}
+use Rattle.fields.specs.declared.Why.the-variants.{Crossing, Crowded, Points, TooLarge, Short}
+use Rattle.fields.specs.Refusal.{refusal}
 use Rattle.sheet.specs.Sheet.{Found, fail, these, sheetOf}
 use Rattle.sheet.specs.Valid.{Valid, mode}
-use Rattle.sheet.specs.TripLaws.{read-valid}
+use Rattle.sheet.specs.ValidLaws.{read-valid}
 use Rattle.sheet.specs.AcceptLaws.{read-refused}
 use Rattle.row.specs.declared.Check.the-variants as check
-use Rattle.row.specs.Tandem.{Tandem, size}
+use Rattle.tandem.specs.Tandem.{Tandem, size}
 use Rattle.row.specs.Groups.{groups}
-use Rattle.row.specs.Checks.{notNested, lowestCrowded, tooMany}
-use Rattle.row.specs.OfSheet.{tandemOf, checkOf}
-use Rattle.row.specs.OfSheetLaws.{crossing-first, crowded-second, points-third, passed-last, accepted, limits, row-size}
-use Rattle.row.specs.CheckLaws.{not-nested-crossed, crossed-not-nested, crowded-lowest, lowest-crowded, none-crowds, crowded-none, too-many-points, points-too-many}
+use Rattle.tandem.specs.Crowded.{lowestCrowded, Lowest}
+use Rattle.row.specs.Checks.{notNested, tooMany}
+use Rattle.tandem.specs.OfSheet.{tandemOf}
+use Rattle.row.specs.OfSheet.{checkOf}
+use Rattle.tandem.specs.OfSheetLaws.{limits, row-size}
+use Rattle.row.specs.OfSheetLaws.{crossing-first, crowded-second, points-third, passed-last, accepted}
+use Rattle.tandem.specs.CrowdedLaws.{crowded-lowest, lowest-crowded, none-crowds, crowded-none}
+use Rattle.row.specs.CheckLaws.{not-nested-crossed, crossed-not-nested, too-many-points, points-too-many}
 use Rattle.row.specs.CountLaws.{few-groups}
-use Rattle.row.specs.Sentences.{Crossed, Lowest}
-use Rattle.row.specs.TestLaws.{decide, not-passed, le-or-lt}
-use Rattle.analysis.specs.declared.Judged.the-variants.{Refused, Crossing, Crowded, Points}
-use Rattle.analysis.specs.Verdict.{gridUsed, listingOf, Verdict, refused, bounded, verdictOf}
+use Rattle.row.specs.Sentences.{Crossed}
+use Rattle.tandem.specs.TestLaws.{decide, not-passed}
+use Rattle.analysis.specs.Verdict.{gridUsed, listingOf, Verdict, refused, bounded, verdictOn, verdictOf}
 use Rattle.analysis.specs.VerdictLaws.{passed-verdict, listing-small}
-use Rattle.desk.specs.Packed.{asOne}
-use Rattle.desk.specs.DetailLaws.{read-place, record-short}
+use Rattle.desk.specs.Packed.{asOne, packed}
+use Rattle.sheet.specs.DetailLaws.{read-place}
+use Rattle.desk.specs.DetailLaws.{record-short}
 use Rattle.desk.specs.Answer.{answerGives, answerHolds}
-use Rattle.desk.specs.Unique.{Analysing, analyse-unique}
+use Rattle.desk.specs.Contract.{GullbiscuitAnalyse}
+use Rattle.desk.specs.Unique.{gullbiscuit-analyse-unique}
 use Rattle.desk.specs.Says.{Uncrowded, TooManyPoints, Passes, answerOf, Says, of-bytes, six, seven, eight, ten, answers}
 
 -- what the verdict is where a sentence holds
@@ -41,18 +48,18 @@ module _ (s xs : List ℕ) (read : sheetOf s ≡ these xs) where
   nested : (Crossed (tandemOf xs) → ⊥) → notNested (tandemOf xs) ≡ false
   nested n = not-passed (notNested (tandemOf xs)) (λ e. n (not-nested-crossed (tandemOf xs) e))
 
-  six-verdict : Crossed (tandemOf xs) → verdictOf s ≡ refused Crossing
-  unfolding verdictOf
+  six-verdict : Crossed (tandemOf xs) → verdictOf s ≡ refused Crossing 0
+  unfolding verdictOf verdictOn
   six-verdict c = rw (read, crossing-first xs (crossed-not-nested (tandemOf xs) c))
 
-  seven-verdict : (Crossed (tandemOf xs) → ⊥) → (j : ℕ) → Lowest (tandemOf xs) 1 (size (tandemOf xs)) j → verdictOf s ≡ refused (Crowded j)
-  unfolding verdictOf
+  seven-verdict : (Crossed (tandemOf xs) → ⊥) → (j : ℕ) → Lowest (tandemOf xs) 1 (size (tandemOf xs)) j → verdictOf s ≡ refused Crowded j
+  unfolding verdictOf verdictOn
   seven-verdict n j l =
       let some : 0 < j = omega (arith, l .behind) in
       rw (read, crowded-second xs (nested n) j (lowest-crowded (tandemOf xs) j l) some)
 
-  eight-verdict : (Crossed (tandemOf xs) → ⊥) → Uncrowded xs → TooManyPoints xs → verdictOf s ≡ refused (Points (length (groups (tandemOf xs))))
-  unfolding verdictOf
+  eight-verdict : (Crossed (tandemOf xs) → ⊥) → Uncrowded xs → TooManyPoints xs → verdictOf s ≡ refused Points (length (groups (tandemOf xs)))
+  unfolding verdictOf verdictOn
   eight-verdict n u m =
       rw (read, points-third xs (nested n) (crowded-none (tandemOf xs) u) (points-too-many (tandemOf xs) (mode xs) (gridUsed xs) (m .0) (m .1)))
 
@@ -71,19 +78,19 @@ module _ (s xs : List ℕ) (read : sheetOf s ≡ these xs) where
 -- where a case holds, the entry gives and leaves what it says
 
 by-verdict : (s before : List ℕ) (r : ℕ) (after : List ℕ) (v : Verdict) → verdictOf s ≡ v
-    → r ≡ answerGives v (length before) → after ≡ answerHolds v before → Analysing s before r after
+    → r ≡ packed (answerGives v (length before)) → after ≡ answerHolds v before → GullbiscuitAnalyse s before r after
 by-verdict s before r after v e g h = record {
-  gives = g ∙ sym (ap (λ (v : Verdict). answerGives v (length before)) e);
+  gives = g ∙ sym (ap (λ (v : Verdict). packed (answerGives v (length before))) e);
   holds = h ∙ sym (ap (λ (v : Verdict). answerHolds v before) e);
 }
 
-pub says-given : (s before : List ℕ) (n d : ℕ) (after : List ℕ) → Says s before n d after → Analysing s before (asOne n d) after
+pub says-given : (s before : List ℕ) (n d : ℕ) (after : List ℕ) → Says s before n d after → GullbiscuitAnalyse s before (asOne n d) after
 unfolding verdictOf
-says-given s before n d after (of-bytes w e a h) = by-verdict s before _ after (refused (Refused w d)) (rw e) (rw a) h
-says-given s before n d after (six xs e c a b h) = by-verdict s before _ after (refused Crossing) (six-verdict s xs e c) (rw (a, b)) h
-says-given s before n d after (seven xs e m l a h) = by-verdict s before _ after (refused (Crowded d)) (seven-verdict s xs e m d l) (rw a) h
+says-given s before n d after (of-bytes w e a h) = by-verdict s before _ after (refused w d) (rw e) (rw a) h
+says-given s before n d after (six xs e c a b h) = by-verdict s before _ after (refused Crossing 0) (six-verdict s xs e c) (rw (a, b)) h
+says-given s before n d after (seven xs e m l a h) = by-verdict s before _ after (refused Crowded d) (seven-verdict s xs e m d l) (rw a) h
 says-given s before n d after (eight xs e m u t a b h) =
-    by-verdict s before _ after (refused (Points (length (groups (tandemOf xs))))) (eight-verdict s xs e m u t) (rw (a, b)) h
+    by-verdict s before _ after (refused Points (length (groups (tandemOf xs)))) (eight-verdict s xs e m u t) (rw (a, b)) h
 says-given s before n d after (ten xs e p l a b h) =
     let t = lt-ltb (length before) (length (answerOf xs)) l in
     by-verdict s before _ after (bounded (listingOf xs)) (answer-verdict s xs e p) (rw (a, b, t)) (rw t h)
@@ -92,10 +99,10 @@ says-given s before n d after (answers xs e p l a b h) =
     by-verdict s before _ after (bounded (listingOf xs)) (answer-verdict s xs e p) (rw (a, b, t)) (rw t h)
 
 -- so every call gives and leaves just that
-pub says-always : (s before : List ℕ) (r : ℕ) (after : List ℕ) → Analysing s before r after → (n d : ℕ) (after′ : List ℕ) → Says s before n d after′
+pub says-always : (s before : List ℕ) (r : ℕ) (after : List ℕ) → GullbiscuitAnalyse s before r after → (n d : ℕ) (after′ : List ℕ) → Says s before n d after′
     → (r ≡ asOne n d) × (after ≡ after′)
 says-always s before r after call n d after′ says =
-    analyse-unique s before r (asOne n d) after after′ call (says-given s before n d after′ says)
+    gullbiscuit-analyse-unique s before r (asOne n d) after after′ call (says-given s before n d after′ says)
 
 -- and the other way: each call falls under one case
 
@@ -121,9 +128,9 @@ record Told (s before : List ℕ) (r : ℕ) (after : List ℕ) : Type 0 where
   one : r ≡ asOne number detail
   says : Says s before number detail after
 
-module _ (s before : List ℕ) (r : ℕ) (after : List ℕ) (call : Analysing s before r after) where
-  given-by : (v : Verdict) → verdictOf s ≡ v → r ≡ answerGives v (length before)
-  given-by v e = call .gives ∙ ap (λ (v : Verdict). answerGives v (length before)) e
+module _ (s before : List ℕ) (r : ℕ) (after : List ℕ) (call : GullbiscuitAnalyse s before r after) where
+  given-by : (v : Verdict) → verdictOf s ≡ v → r ≡ packed (answerGives v (length before))
+  given-by v e = call .gives ∙ ap (λ (v : Verdict). packed (answerGives v (length before))) e
 
   held-by : (v : Verdict) → verdictOf s ≡ v → after ≡ answerHolds v before
   held-by v e = call .holds ∙ ap (λ (v : Verdict). answerHolds v before) e
@@ -134,7 +141,7 @@ module _ (s before : List ℕ) (r : ℕ) (after : List ℕ) (call : Analysing s 
       let v = answer-verdict s xs e p in
       let t = lt-ltb (length before) (length (answerOf xs)) l in
       record {
-        number = 10;
+        number = refusal Short;
         detail = length (answerOf xs);
         one = rw t at (given-by (bounded (listingOf xs)) v);
         says = ten xs e p l refl refl (rw t at (held-by (bounded (listingOf xs)) v));
@@ -159,7 +166,7 @@ module _ (s before : List ℕ) (r : ℕ) (after : List ℕ) (call : Analysing s 
         let m = too-many-points row (mode xs) (gridUsed xs) t in
         let v = eight-verdict s xs e n u m in
         record {
-          number = 8;
+          number = refusal Points;
           detail = length (groups row);
           one = given-by _ v;
           says = eight xs e n u m refl refl (held-by _ v);
@@ -175,7 +182,7 @@ module _ (s before : List ℕ) (r : ℕ) (after : List ℕ) (call : Analysing s 
         let l = crowded-lowest row h in
         let v = seven-verdict s xs e n (lowestCrowded row 1 (size row)) l in
         record {
-          number = 7;
+          number = refusal Crowded;
           detail = lowestCrowded row 1 (size row);
           one = given-by _ v;
           says = seven xs e n l refl (held-by _ v);
@@ -185,7 +192,7 @@ module _ (s before : List ℕ) (r : ℕ) (after : List ℕ) (call : Analysing s 
     told-row (inl t) =
         let c = not-nested-crossed row t in
         let v = six-verdict s xs e c in
-        record { number = 6; detail = 0; one = given-by _ v; says = six xs e c refl refl (held-by _ v) }
+        record { number = refusal Crossing; detail = 0; one = given-by _ v; says = six xs e c refl refl (held-by _ v) }
     told-row (inr t) = told-crowded (λ c. true≢false (sym (crossed-not-nested row c) ∙ t)) (le-or-lt (lowestCrowded row 1 (size row)) 0)
 
   told : Told s before r after
@@ -194,12 +201,12 @@ module _ (s before : List ℕ) (r : ℕ) (after : List ℕ) (call : Analysing s 
     where
       by : (f : Found) → sheetOf s ≡ f → Told s before r after
       by (fail w d) e =
-          let v : verdictOf s ≡ refused (Refused w d) = rw e in
+          let v : verdictOf s ≡ refused w d = rw e in
           record {
             number = refusal w;
             detail = d;
-            one = given-by (refused (Refused w d)) v;
-            says = of-bytes w e refl (held-by (refused (Refused w d)) v);
+            one = given-by (refused w d) v;
+            says = of-bytes w e refl (held-by (refused w d) v);
           }
       by (these xs) e = told-row xs e (decide (notNested (tandemOf xs)))
 
@@ -223,7 +230,7 @@ module _ (s before : List ℕ) (r : ℕ) (after : List ℕ) (call : Analysing s 
       by n d o (ten xs e p w a b k) = k
       by n d o (answers xs e p w a b k) = absurd (omega (arith, answer-short s xs e p))
 
-module _ (s before : List ℕ) (r : ℕ) (after : List ℕ) (bytes : Bytes s) (call : Analysing s before r after) where
+module _ (s before : List ℕ) (r : ℕ) (after : List ℕ) (bytes : Bytes s) (call : GullbiscuitAnalyse s before r after) where
   -- what is given as refusal n with detail d is given for its reason
   pub given-says : (n d : ℕ) → d < 4294967296 → r ≡ asOne n d → Says s before n d after
   given-says n d h e =
@@ -232,7 +239,7 @@ module _ (s before : List ℕ) (r : ℕ) (after : List ℕ) (bytes : Bytes s) (c
       subst (λ (x : ℕ). Says s before x d after) (a .0) (subst (λ (x : ℕ). Says s before (t .number) x after) (a .1) (t .says))
 
   -- 9 is never given
-  pub never-nine : (d : ℕ) → d < 4294967296 → r ≡ asOne 9 d → ⊥
+  pub never-nine : (d : ℕ) → d < 4294967296 → r ≡ asOne (refusal TooLarge) d → ⊥
   never-nine d h e = by (given-says 9 d h e)
     where
       by : Says s before 9 d after → ⊥
@@ -245,7 +252,7 @@ module _ (s before : List ℕ) (r : ℕ) (after : List ℕ) (bytes : Bytes s) (c
 
   -- 6, 7 and 8 only where their sentences hold of the sheet's row and no earlier refusal does (and there always: `says-always`)
 
-  pub six-only : (d : ℕ) → d < 4294967296 → r ≡ asOne 6 d → (xs : List ℕ) × (sheetOf s ≡ these xs) × Crossed (tandemOf xs) × (d ≡ 0)
+  pub six-only : (d : ℕ) → d < 4294967296 → r ≡ asOne (refusal Crossing) d → (xs : List ℕ) × (sheetOf s ≡ these xs) × Crossed (tandemOf xs) × (d ≡ 0)
   six-only d h e = by (given-says 6 d h e)
     where
       by : Says s before 6 d after → (xs : List ℕ) × (sheetOf s ≡ these xs) × Crossed (tandemOf xs) × (d ≡ 0)
@@ -256,7 +263,7 @@ module _ (s before : List ℕ) (r : ℕ) (after : List ℕ) (bytes : Bytes s) (c
       by (ten xs e p w a b k) = absurd (omega arith)
       by (answers xs e p w a b k) = absurd (omega arith)
 
-  pub seven-only : (d : ℕ) → d < 4294967296 → r ≡ asOne 7 d
+  pub seven-only : (d : ℕ) → d < 4294967296 → r ≡ asOne (refusal Crowded) d
       → (xs : List ℕ) × (sheetOf s ≡ these xs) × (Crossed (tandemOf xs) → ⊥) × Lowest (tandemOf xs) 1 (size (tandemOf xs)) d
   seven-only d h e = by (given-says 7 d h e)
     where
@@ -268,7 +275,7 @@ module _ (s before : List ℕ) (r : ℕ) (after : List ℕ) (bytes : Bytes s) (c
       by (ten xs e p w a b k) = absurd (omega arith)
       by (answers xs e p w a b k) = absurd (omega arith)
 
-  pub eight-only : (d : ℕ) → d < 4294967296 → r ≡ asOne 8 d
+  pub eight-only : (d : ℕ) → d < 4294967296 → r ≡ asOne (refusal Points) d
       → (xs : List ℕ) × (sheetOf s ≡ these xs) × (Crossed (tandemOf xs) → ⊥) × Uncrowded xs × TooManyPoints xs × (d ≡ length (groups (tandemOf xs)))
   eight-only d h e = by (given-says 8 d h e)
     where

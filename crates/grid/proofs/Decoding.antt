@@ -6,7 +6,7 @@ use Prim.Native.Nat.{ℕ, zero, suc, _+_, _-_, _/_, _%_, _≤_, _<_}
 use native.Mathlib.Omega.{arith}
 use lib.ListN.{length, set, drop, replicate, length-set}
 use lib.Seq.{drop-cons, getD-set-same, drop-set-lt}
-use Rattle.row.specs.OfSheet.{padded}
+use Rattle.row.specs.RowFor.{padded}
 use Rattle.keys.specs.Numbers.{pointAt}
 use Rattle.keys.specs.UseLaws.{point-length}
 

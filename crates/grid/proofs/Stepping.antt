@@ -8,7 +8,7 @@ use native.Mathlib.Omega.{arith}
 use borrow.Author.Tests.{eq-eqb, ne-eqb}
 use lib.ListN.{length, set, replicate, length-set, length-append, length-map}
 use lib.Seq.{set-append-seam}
-use Rattle.row.specs.OfSheet.{padded}
+use Rattle.row.specs.RowFor.{padded}
 use Rattle.keys.specs.Numbers.{firstDigits}
 use Rattle.grid.specs.Steps.{stepAt, stepsIn}
 use Rattle.grid.specs.StepsLaws.{step-zero}

@@ -1,3 +1,4 @@
 pub mod Steps
 pub mod StepsLaws
+pub mod Contract
 pub mod Unique

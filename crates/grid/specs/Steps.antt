@@ -3,7 +3,7 @@
 use mathlib.Core.List.{List, map}
 use Prim.Native.Nat.{ℕ, _-_, _*_, _/_}
 use lib.ListN.{length, take}
-use Rattle.row.specs.OfSheet.{padded}
+use Rattle.row.specs.RowFor.{padded}
 use Rattle.keys.specs.Numbers.{firstDigits}
 use Rattle.grid.specs.declared.Steps.{Steps}
 

@@ -11,8 +11,9 @@ use native.Mathlib.Omega.{arith}
 use lib.Dec.{eqb}
 use lib.ListN.{length, getD, replicate, length-append, length-replicate, length-map}
 use lib.Seq.{take-at}
-use Rattle.tree.specs.Searched.{Each}
-use Rattle.tree.specs.GridLaws.{each-append, each-below, zeros-below}
+use Rattle.ground.specs.Each.{Each}
+use Rattle.ground.specs.EachLaws.{each-append}
+use Rattle.tree.specs.GridLaws.{each-below, zeros-below}
 use Rattle.keys.specs.Numbers.{In, keep, firstDigits, Growing}
 use Rattle.keys.specs.NumberLaws.{first-digits-stand, first-digits-grow}
 use Rattle.keys.specs.ChooseLaws.{first-digits-few}
@@ -41,10 +42,10 @@ starts step (suc n) =
     starts-keep (eqb (step n) (step (suc n))) (firstDigits step (suc n)) (s .0) (suc n) (s .1)
 
 -- what holds of each holds of one
-each-in : (P : ℕ → Type 0) (l : List ℕ) (x : ℕ) → In x l → Each P l → P x
-each-in P [] x i h = absurd i
-each-in P (y ∷ l) x (inl e) h = rw e (h .0)
-each-in P (y ∷ l) x (inr i) h = each-in P l x i (h .1)
+each-member : (P : ℕ → Type 0) (l : List ℕ) (x : ℕ) → In x l → Each P l → P x
+each-member P [] x i h = absurd i
+each-member P (y ∷ l) x (inl e) h = rw e (h .0)
+each-member P (y ∷ l) x (inr i) h = each-member P l x i (h .1)
 
 -- of digits that grow behind the first, each step is at least the second's
 second-least : (step : ℕ → ℕ) → ((d e : ℕ) → d ≤ e → step d ≤ step e) → (d : ℕ) (ds : List ℕ) → Growing (0 ∷ ds) → In d (0 ∷ ds) → step 0 ≡ 0 → (l : List ℕ)
@@ -52,7 +53,7 @@ second-least : (step : ℕ → ℕ) → ((d e : ℕ) → d ≤ e → step d ≤ 
 second-least step up d ds r (inl e) z l = inl (ap step e ∙ z)
 second-least step up d [] r (inr i) z l = absurd i
 second-least step up d (x ∷ ds) r (inr (inl e)) z l = inr (up x d (omega arith))
-second-least step up d (x ∷ ds) r (inr (inr i)) z l = let h = each-in (λ e. x < e) ds d i (r .1 .0) in inr (up x d (omega arith))
+second-least step up d (x ∷ ds) r (inr (inr i)) z l = let h = each-member (λ e. x < e) ds d i (r .1 .0) in inr (up x d (omega arith))
 
 module _ (start g : ℕ) where
   few : g ≤ 9 → length (firstDigits (stepAt start g) g) ≤ 9

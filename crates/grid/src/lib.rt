@@ -1,9 +1,6 @@
 // The steps of a row's grid, and the extras of a point by its number.
-ghost use mathlib.Core.Path.{_≡_};
 ghost use Prim.Native.Nat.{_≤_, _<_, _^_};
-ghost use Rattle.row.specs.OfSheet.{padded};
-ghost use Rattle.keys.specs.Numbers.{pointAt};
-ghost use Rattle.grid.specs.Steps.{stepAt, stepsIn};
+ghost use Rattle.grid.specs.Contract.{StepsOf, ExtrasAt};
 
 // The steps of a grid in order, equal ones once, each with the first digit that has it: the first `count` of `digits` and `values`.
 pub struct Steps {
@@ -17,7 +14,7 @@ pub struct Steps {
 // The grid's steps floor(i * start / (g - 1)), which do not fall: a step equal to the one before is left out.
 pub fn steps_of(start: u64, g: usize) -> Steps
     requires { ⌜ (2 ≤ g) × (g ≤ 9) × (start < 2 ^ 32) ⌝ }
-    ensures { λ r. ⌜ r ≡ stepsIn start g ⌝ }
+    ensures { λ r. ⌜ StepsOf start g r ⌝ }
 {
     let mut values = [0u64; 9];
     let mut digits = [0u64; 9];
@@ -46,7 +43,7 @@ pub fn steps_of(start: u64, g: usize) -> Steps
 // The extras of the point with this number: its digits to the base g, the last group's lowest, each for its step.
 pub fn extras_at(number: u64, start: u64, g: usize, groups: usize) -> [u64; 32]
     requires { ⌜ (2 ≤ g) × (g ≤ 9) × (start < 2 ^ 32) × (groups ≤ 31) ⌝ }
-    ensures { λ r. ⌜ r ≡ padded 32 0 (pointAt (stepAt start g) g groups number) ⌝ }
+    ensures { λ r. ⌜ ExtrasAt number start g groups r ⌝ }
 {
     let base = g as u64;
     let mut extra = [0u64; 32];

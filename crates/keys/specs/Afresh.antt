@@ -7,9 +7,9 @@ use mathlib.Core.Logic.{_⊎_}
 use mathlib.Core.List.{List, [], _∷_, _++_}
 use Prim.Native.Nat.{ℕ, zero, suc, _*_, _-_, _≤_, _<_, max}
 use lib.ListN.{length, getD, drop}
-use Rattle.row.specs.Tandem.{Path}
+use Rattle.tandem.specs.Tandem.{Path}
 use Rattle.row.specs.Groups.{path}
-use Rattle.row.specs.declared.Flow.{Flow}
+use Rattle.tandem.specs.declared.Flow.{Flow}
 use Rattle.tree.specs.Plan.{headOf, tailOf}
 use Rattle.tree.specs.Planned.{noFlow}
 use Rattle.tree.specs.Stands.{Contains}

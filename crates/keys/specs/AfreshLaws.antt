@@ -11,11 +11,11 @@ use lib.Dec.{eqb}
 use borrow.Author.Tests.{eqb-false}
 use lib.ListN.{length, getD, take, drop, replicate, length-take, length-replicate, getD-replicate, List·getD-append}
 use lib.Seq.{drop-drop, drop-at, getD-drop}
-use Rattle.row.specs.TestLaws.{le-or-lt}
+use Rattle.ground.specs.OrderLaws.{le-or-lt}
 use Rattle.tree.specs.Amounts.{sumOf}
 use Rattle.tree.specs.Grid.{flat}
-use Rattle.tree.specs.Searched.{Each}
-use Rattle.tree.specs.GridLaws.{each-append, each-map, each-in}
+use Rattle.ground.specs.Each.{Each}
+use Rattle.ground.specs.EachLaws.{each-append, each-map, each-in}
 use Rattle.keys.specs.KeyLaws.{tail-of}
 use Rattle.keys.specs.Numbers.{keep, firstDigits, Growing}
 use Rattle.keys.specs.NumberLaws.{first-digits-stand, grow-snoc}
@@ -118,7 +118,8 @@ all-moved n k z d a b e done h f g =
     }
   where
     -- the digit of the group that steps, and those behind it
-    at : (y c : ℕ) → (getD (replicate k y ++ (c ∷ done)) k 0 ≡ c) × (drop (suc k) (replicate k y ++ (c ∷ done)) ≡ done) × (k < length (replicate k y ++ (c ∷ done)))
+    at : (y c : ℕ) → (getD (replicate k y ++ (c ∷ done)) k 0 ≡ c) × (drop (suc k) (replicate k y ++ (c ∷ done)) ≡ done)
+        × (k < length (replicate k y ++ (c ∷ done)))
     at y c = tail-of 0 k (replicate k y ++ (c ∷ done)) c done (drop-at (replicate k y) (c ∷ done) k (length-replicate k y))
 
     before : (y c i : ℕ) → i < k → getD (replicate k y ++ (c ∷ done)) i 0 ≡ y
@@ -153,7 +154,8 @@ module _ (b : ℕ) (f : List ℕ) (z n : ℕ) (above : b < z) where
           let u = subst (Pairs (AllMoved n)) (x .2) (r (d ∷ done) m) in
           let v = subst (λ (t : List Visit). Pairs (AllMoved n) (t ++ rest)) (y .1) (turn r (e ∷ l) (q .1) (suc k)) in
           let s = all-moved n k z d (x .1) b e done h above (q .0 .0) in
-          rw (x .2, y .1) (pairs-seam (AllMoved n) (x .0) (visit (replicate k z ++ (d ∷ done)) (x .1)) (visit (replicate k b ++ (e ∷ done)) (suc k)) (y .0 ++ rest) u s v)
+          rw (x .2, y .1) (pairs-seam (AllMoved n) (x .0) (visit (replicate k z ++ (d ∷ done)) (x .1)) (visit (replicate k b ++ (e ∷ done)) (suc k))
+          (y .0 ++ rest) u s v)
 
 -- one digit, one point
 one-from : (d k : ℕ) (done : List ℕ) (m : ℕ) → visitsFrom (d ∷ []) k done m ≡ visit (replicate k d ++ done) m ∷ []
@@ -180,7 +182,8 @@ module _ (step : ℕ → ℕ) (rises : (d e : ℕ) → d ≤ e → step d ≤ st
   steps-below n d [] h k = tt
   steps-below n d (e ∷ l) h k = (omega (arith, rises e n (omega (arith, k .0)), h), steps-below n d l h (k .1))
 
-  steps-keep : (n : ℕ) (l : List ℕ) (t : Bool) → eqb (step n) (step (suc n)) ≡ t → Growing (map step l) → Each (λ e. e < suc n) l → Growing (map step (keep t l (suc n)))
+  steps-keep : (n : ℕ) (l : List ℕ) (t : Bool) → eqb (step n) (step (suc n)) ≡ t → Growing (map step l) → Each (λ e. e < suc n) l
+      → Growing (map step (keep t l (suc n)))
   steps-keep n l true e o h = o
   steps-keep n l false e o h =
       let a : n ≤ suc n = omega arith in
@@ -244,7 +247,8 @@ module _ (n m : ℕ) (some : 1 ≤ m) where
       by : (m ≤ a) ⊎ (a < m) → Kept a v w
       by (inl x) =
           let e : a ≡ m = omega arith in
-          let l : getD (v .point) (m - 1) 0 < getD (w .point) (m - 1) 0 = subst (λ (i : ℕ). getD (v .point) (i - 1) 0 < getD (w .point) (i - 1) 0) e (h .last .later) in
+          let l : getD (v .point) (m - 1) 0 < getD (w .point) (m - 1) 0 =
+          subst (λ (i : ℕ). getD (v .point) (i - 1) 0 < getD (w .point) (i - 1) 0) e (h .last .later) in
           record { behind = behind; near = omega arith; later = λ y. l }
       by (inr x) =
           let i = m - 1 - a in

@@ -11,7 +11,7 @@ use lib.ListN.{length, getD, take, drop, take-append-drop, length-append}
 use lib.Seq.{take-suc}
 use Rattle.tree.specs.Grid.{flat}
 use Rattle.tree.specs.GridLaws.{flat-append}
-use Rattle.tree.specs.Searched.{Each}
+use Rattle.ground.specs.Each.{Each}
 use Rattle.keys.specs.Keys.{leastOf}
 use Rattle.keys.specs.KeyLaws.{least-append, least-stays}
 use Rattle.keys.specs.Numbers.{keep, firstDigits}

@@ -6,8 +6,8 @@ use mathlib.Core.List.{List, [], _∷_, map}
 use Prim.Native.Nat.{ℕ, _+_, _-_, _*_, _/_, _%_}
 use lib.ListN.{length, getD, replicate}
 use Rattle.curves.specs.Curve.{server, neutral, joined, ceil, greatest, catchUp, leastWait, remainder, lateness, delay}
-use Rattle.row.specs.declared.Server.{Server}
-use Rattle.row.specs.declared.Flow.{Flow}
+use Rattle.tandem.specs.declared.Server.{Server}
+use Rattle.tandem.specs.declared.Flow.{Flow}
 use Rattle.tree.specs.Amounts.{sumOf}
 use Rattle.tree.specs.Plan.{topOf, along, nodeCurve, nodeOf, plan}
 use Rattle.tree.specs.Met.{srv, flowed}
@@ -32,7 +32,8 @@ pub figures : (found (srv 10 1 ∷ []) (flowed 1 1 8 3) (flowed 1 1 10 2 ∷ [])
     × (found (srv 10 0 ∷ []) (flowed 1 1 12 4) (flowed 1 1 10 6 ∷ []) 3 ≡ 3 * 65536 + 1)
     × (found (srv 10 0 ∷ []) (flowed 1 1 12 4) (flowed 1 1 10 6 ∷ []) 4 ≡ 3 * 65536 + 1)
     × (found (srv 10 1 ∷ srv 10 1 ∷ srv 10 1 ∷ []) (flowed 1 3 6 2) (flowed 1 1 4 2 ∷ flowed 2 3 4 2 ∷ flowed 3 3 4 2 ∷ []) 2 ≡ 6 * 65536)
-unfolding answerOf plan nodeOf nodeCurve along topOf server neutral joined ceil greatest catchUp leastWait remainder lateness delay sumOf rowCurve lagOf leftBy leftOf
+unfolding answerOf plan nodeOf nodeCurve along topOf server neutral joined ceil greatest catchUp leastWait remainder lateness delay sumOf rowCurve
+    lagOf leftBy leftOf
 figures = (refl, refl, refl, refl, refl)
 
 -- number 5 of two groups with three digits has the digits 1 and 2: document 01's sixth point

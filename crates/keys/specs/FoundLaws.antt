@@ -9,18 +9,19 @@ use native.Mathlib.Omega.{arith}
 use lib.ListN.{length, replicate, length-append}
 use Rattle.curves.specs.Curve.{Shape, delay}
 use Rattle.curves.specs.DelayLaws.{delay-after-offset}
-use Rattle.row.specs.declared.Server.{Server}
-use Rattle.row.specs.declared.Flow.{Flow}
-use Rattle.row.specs.OfSheet.{listed}
+use Rattle.tandem.specs.declared.Server.{Server}
+use Rattle.tandem.specs.declared.Flow.{Flow}
+use Rattle.tandem.specs.OfSheet.{listed}
 use Rattle.tree.specs.Grid.{Answer, pointsFrom, pointsOf, stepsOf, foundOf}
-use Rattle.tree.specs.Searched.{Each}
-use Rattle.tree.specs.GridLaws.{each-append, each-map, each-listed, best-stays}
+use Rattle.ground.specs.Each.{Each}
+use Rattle.ground.specs.EachLaws.{each-append, each-map}
+use Rattle.tree.specs.GridLaws.{each-listed, best-stays, each-flat}
 use Rattle.tree.specs.Amounts.{sumOf}
 use Rattle.tree.specs.PruneLaws.{latenciesOf}
 use Rattle.tree.specs.Planned.{answerOf}
 use Rattle.tree.specs.Ordered.{Placed, Ordered}
 use Rattle.keys.specs.Numbers.{pointAt, Stand}
-use Rattle.keys.specs.NumberLaws.{each-flat, found-chosen}
+use Rattle.keys.specs.NumberLaws.{found-chosen}
 use Rattle.keys.specs.Keys.{leastOf}
 use Rattle.keys.specs.Left.{rowCurve, lagOf, leftOf}
 use Rattle.keys.specs.ServerLaws.{left-offset}
@@ -89,7 +90,8 @@ module _ (ss : List Server) (w : Flow) (gs : List Flow) (g : ℕ) (some : 1 ≤ 
         omega (arith, slots-past-extras (rowCurve ss) gs es h, answer-left ss w gs es o p first last, delay-after-offset c (w .burst) (w .rate))
 
     -- where no step lies between 0 and v, and start is at most the latencies and v, the first point is the answer
-    pub found-first : (v : ℕ) → ((d : ℕ) → d < g → (step d ≡ 0) ⊎ (v ≤ step d)) → start ≤ sumOf (latenciesOf ss) + v → foundOf at n 0 g .best ≡ at (replicate n 0)
+    pub found-first : (v : ℕ) → ((d : ℕ) → d < g → (step d ≡ 0) ⊎ (v ≤ step d)) → start ≤ sumOf (latenciesOf ss) + v
+        → foundOf at n 0 g .best ≡ at (replicate n 0)
     unfolding foundOf pointsOf stepsOf
     found-first v z h =
         best-stays at (at (replicate n 0)) (pointsFrom (listed g step) [] n)

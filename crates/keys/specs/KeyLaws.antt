@@ -9,9 +9,9 @@ use native.Mathlib.Nat.{mul-le-mul-right, mul-add-div-right, mul-add-mod-self-ri
 use native.Mathlib.Omega.{arith}
 use borrow.Author.Tests.{lt-ltb}
 use lib.ListN.{length, getD, drop, replicate}
-use Rattle.row.specs.TestLaws.{le-or-lt}
+use Rattle.ground.specs.OrderLaws.{le-or-lt}
 use Rattle.tree.specs.Grid.{Answer, pointsOf, stepsOf, better, bestOf, foundOf}
-use Rattle.tree.specs.Searched.{Each}
+use Rattle.ground.specs.Each.{Each}
 use Rattle.tree.specs.GridLaws.{better-stays, points-front, points-count}
 use Rattle.keys.specs.Keys.{leastOf, keysFrom, Keyed}
 

@@ -10,9 +10,9 @@ use lib.ListN.{getD}
 use Rattle.curves.specs.declared.Stage.{Stage}
 use Rattle.curves.specs.Curve.{Shape}
 use Rattle.curves.specs.Part.{lagIn, leftIn}
-use Rattle.row.specs.Sums.{weigh}
-use Rattle.row.specs.declared.Server.{Server}
-use Rattle.row.specs.declared.Flow.{Flow}
+use Rattle.tandem.specs.Sums.{weigh}
+use Rattle.tandem.specs.declared.Server.{Server}
+use Rattle.tandem.specs.declared.Flow.{Flow}
 use Rattle.tree.specs.Plan.{headOf, tailOf}
 use Rattle.tree.specs.Amounts.{sumOf}
 use Rattle.tree.specs.PruneLaws.{latenciesOf}

@@ -17,11 +17,11 @@ use Rattle.curves.specs.Curve.{Shape, after, greatest, catchUp, leastWait, rema
 use Rattle.curves.specs.Part.{changed}
 use Rattle.curves.specs.PartLaws.{changed-inside, changed-outside, changed-length}
 use Rattle.curves.specs.Held.{blank}
-use Rattle.row.specs.declared.Server.{Server}
-use Rattle.row.specs.declared.Flow.{Flow}
+use Rattle.tandem.specs.declared.Server.{Server}
+use Rattle.tandem.specs.declared.Flow.{Flow}
 use Rattle.tree.specs.Plan.{Node, Top, alone, over, topOf, serverCurve, nodeCurve, nodeOf, headOf, tailOf, plan}
-use Rattle.tree.specs.Searched.{Each}
-use Rattle.tree.specs.GridLaws.{each-map}
+use Rattle.ground.specs.Each.{Each}
+use Rattle.ground.specs.EachLaws.{each-map}
 use Rattle.tree.specs.Amounts.{sumOf}
 use Rattle.tree.specs.PruneLaws.{latenciesOf}
 use Rattle.tree.specs.Planned.{answerOf}
@@ -50,7 +50,8 @@ stages-by bs rs (s ∷ l) i h =
     let z : i + 0 ≡ i = omega arith in
     let a : cellAt bs rs i ≡ s = ap (cellAt bs rs) (sym z) ∙ h 0 (omega arith) in
     ap (λ (u : Stage). u ∷ stagesFrom bs rs (suc i) (length l)) a
-    ∙ ap (λ (m : List Stage). s ∷ m) (stages-by bs rs l (suc i) (λ j p. let y : suc i + j ≡ i + suc j = omega arith in ap (cellAt bs rs) y ∙ h (suc j) (omega arith)))
+    ∙ ap (λ (m : List Stage). s ∷ m)
+    (stages-by bs rs l (suc i) (λ j p. let y : suc i + j ≡ i + suc j = omega arith in ap (cellAt bs rs) y ∙ h (suc j) (omega arith)))
 
 stages-are : (l : List Stage) → stagesFrom (burstsOf l) (ratesOf l) 0 (length l) ≡ l
 stages-are l = stages-by (burstsOf l) (ratesOf l) l 0 (λ j p. let z : 0 + j ≡ j = omega arith in ap (cellAt (burstsOf l) (ratesOf l)) z ∙ cell-is l j)
@@ -187,7 +188,8 @@ module _ (ss : List Server) (g : Flow) (gs : List Flow) (ns : List Node) (c : Sh
         record {
           bursts-long = length-map l (λ (s : Stage). s .burst) ∙ same ∙ sym (length-map (c .stages) (λ (s : Stage). s .burst));
           rates-long = length-map l (λ (s : Stage). s .rate) ∙ same ∙ sym (length-map (c .stages) (λ (s : Stage). s .rate));
-          inside = λ j q r. cell-is l j ∙ changed-inside f a b (c .stages) j blank q r (omega (arith, p .0 .leaves, lies .long)) ∙ ap f (sym (cell-is (c .stages) j));
+          inside = λ j q r. cell-is l j ∙ changed-inside f a b (c .stages) j blank q r (omega (arith, p .0 .leaves, lies .long))
+              ∙ ap f (sym (cell-is (c .stages) j));
           outside = λ j q. cell-is l j ∙ changed-outside f a b (c .stages) j blank q ∙ sym (cell-is (c .stages) j);
         }
       where

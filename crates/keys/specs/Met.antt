@@ -6,12 +6,12 @@ use mathlib.Core.List.{List, [], _∷_}
 use Prim.Native.Nat.{ℕ, zero, suc, _<_}
 use native.Mathlib.Omega.{arith}
 use lib.ListN.{getD}
-use Rattle.row.specs.Tandem.{Path}
-use Rattle.row.specs.declared.Server.{Server}
-use Rattle.row.specs.declared.Flow.{Flow}
+use Rattle.tandem.specs.Tandem.{Path}
+use Rattle.tandem.specs.declared.Server.{Server}
+use Rattle.tandem.specs.declared.Flow.{Flow}
 use Rattle.tree.specs.Met.{srv, flowed}
 use Rattle.tree.specs.Planned.{noFlow}
-use Rattle.tree.specs.Searched.{Each}
+use Rattle.ground.specs.Each.{Each}
 use Rattle.tree.specs.Ordered.{Placed, Ordered}
 use Rattle.tree.specs.Stands.{Contains}
 use Rattle.tree.specs.NodeLaws.{curveAt}
@@ -35,7 +35,10 @@ ordered8 = (
 placed8 : Each (Placed 3) groups8
 placed8 = (
   record { enters = omega arith; onward = omega arith; leaves = omega arith },
-  (record { enters = omega arith; onward = omega arith; leaves = omega arith }, (record { enters = omega arith; onward = omega arith; leaves = omega arith }, tt)),
+  (
+    record { enters = omega arith; onward = omega arith; leaves = omega arith },
+    (record { enters = omega arith; onward = omega arith; leaves = omega arith }, tt),
+  ),
 )
 
 grow8 : Growing (0 ∷ 1 ∷ [])

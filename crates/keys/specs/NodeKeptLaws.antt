@@ -13,13 +13,14 @@ use lib.ListN.{length, getD, drop, length-drop, drop-of-length-le}
 use lib.Seq.{drop-nil, getD-drop}
 use borrow.Author.Tests.{eqb-true, ltb-false}
 use Rattle.curves.specs.Curve.{Shape, neutral, joined}
-use Rattle.row.specs.declared.Server.{Server}
-use Rattle.row.specs.declared.Flow.{Flow}
-use Rattle.row.specs.TestLaws.{decide, le-or-lt}
+use Rattle.tandem.specs.declared.Server.{Server}
+use Rattle.tandem.specs.declared.Flow.{Flow}
+use Rattle.ground.specs.OrderLaws.{le-or-lt}
+use Rattle.tandem.specs.TestLaws.{decide}
 use Rattle.tree.specs.Plan.{Node, Top, alone, over, topOf, serverCurve, pieceOn, along, nodeCurve, nodeOf, headOf, tailOf, plan}
 use Rattle.tree.specs.Planned.{noFlow}
-use Rattle.tree.specs.Searched.{Each}
-use Rattle.tree.specs.GridLaws.{each-at, each-map}
+use Rattle.ground.specs.Each.{Each}
+use Rattle.ground.specs.EachLaws.{each-at, each-map}
 use Rattle.tree.specs.Ordered.{Placed, After, Ordered}
 use Rattle.tree.specs.Stands.{Contains}
 use Rattle.tree.specs.NodeLaws.{planFrom, curveAt, nodeAt}

@@ -6,18 +6,20 @@ use mathlib.Core.Bool.{Bool, true, false}
 use mathlib.Core.Logic.{_⊎_, inl, inr}
 use mathlib.Core.List.{List, [], _∷_, _++_, append-assoc, append-nil}
 use Prim.Native.Nat.{ℕ, zero, suc, _+_, _*_, _-_, _/_, _%_, _^_, _≤_, _<_}
-use native.Mathlib.Nat.{mul-le-mul-right, mul-add-div-right, mul-add-mod-self-right, div-eq-of-lt, mod-eq-of-lt, mod-lt, div-add-mod', pow-zero, pow-suc, mul-comm, mul-assoc, add-mul, div-lt-iff-lt-mul}
+use native.Mathlib.Nat.{mul-le-mul-right, mul-add-div-right, mul-add-mod-self-right, div-eq-of-lt, mod-eq-of-lt, mod-lt, div-add-mod', pow-zero}
+use native.Mathlib.Nat.{pow-suc, mul-comm, mul-assoc, add-mul, div-lt-iff-lt-mul}
 use native.Mathlib.Omega.{arith}
 use borrow.Author.Tests.{eqb-true}
 use lib.Dec.{eqb}
 use lib.ListN.{length, getD, List·getD-append, replicate}
 use lib.Seq.{getD-append-add}
-use Rattle.row.specs.OfSheet.{listed}
-use Rattle.row.specs.OfSheetLaws.{length-listed, listed-at}
-use Rattle.row.specs.TestLaws.{le-or-lt}
+use Rattle.tandem.specs.OfSheet.{listed}
+use Rattle.tandem.specs.OfSheetLaws.{length-listed, listed-at}
+use Rattle.ground.specs.OrderLaws.{le-or-lt}
 use Rattle.tree.specs.Grid.{Answer, flat, pointsFrom, pointsOf, stepsOf, foundOf}
-use Rattle.tree.specs.Searched.{Each}
-use Rattle.tree.specs.GridLaws.{each-append, each-map, points-from-count, points-count}
+use Rattle.ground.specs.Each.{Each}
+use Rattle.ground.specs.EachLaws.{each-append, each-map, each-front, each-back}
+use Rattle.tree.specs.GridLaws.{points-from-count, points-count, each-flat}
 use Rattle.keys.specs.Keys.{leastOf, keysFrom, Keyed}
 use Rattle.keys.specs.KeyLaws.{least-same, found-keyed, keyed-there, keyed-number, keyed-delay}
 use Rattle.keys.specs.Numbers.{pointAt, In, Stand, keep, firstDigits, Growing, keysBelow}
@@ -96,22 +98,10 @@ module _ (step : ℕ → ℕ) (g : ℕ) where
 
 -- what is at most each of a list
 
-each-front : {A : Type 0} (P : A → Type 0) (l m : List A) → Each P (l ++ m) → Each P l
-each-front P [] m h = tt
-each-front P (x ∷ l) m h = (h .0, each-front P l m (h .1))
-
-each-back : {A : Type 0} (P : A → Type 0) (l m : List A) → Each P (l ++ m) → Each P m
-each-back P [] m h = h
-each-back P (x ∷ l) m h = each-back P l m (h .1)
-
 each-block : (P : ℕ → Type 0) (h : ℕ → List ℕ) (l : List ℕ) (d : ℕ) → In d l → Each P (flat h l) → Each P (h d)
 each-block P h [] d i a = absurd i
 each-block P h (e ∷ l) d (inl i) a = rw i (each-front P (h e) (flat h l) a)
 each-block P h (e ∷ l) d (inr i) a = each-block P h l d i (each-back P (h e) (flat h l) a)
-
-pub each-flat : {B : Type 0} (P : ℕ → Type 0) (Q : B → Type 0) (h : ℕ → List B) (l : List ℕ) → ((e : ℕ) → P e → Each Q (h e)) → Each P l → Each Q (flat h l)
-each-flat P Q h [] f a = tt
-each-flat P Q h (e ∷ l) f a = each-append Q (h e) (flat h l) (f e (a .0)) (each-flat P Q h l f (a .1))
 
 module _ (M : ℕ) (at : List ℕ → Answer) where
   -- the key of the point p with number i
@@ -222,7 +212,8 @@ one-more step n l true e s =
         (a .0, a .1, omega (arith, a .2), a .3 ∙ eqb-true (step n) (step (suc n)) e ∙ ap step b)
 one-more step n l false e s =
     record {
-      digits = each-append (λ d. d < suc (suc n)) l (suc n ∷ []) (each-map (λ d. d < suc n) (λ d. d < suc (suc n)) l (λ d k. omega arith) (s .digits)) (omega arith, tt);
+      digits = each-append (λ d. d < suc (suc n)) l (suc n ∷ []) (each-map (λ d. d < suc n) (λ d. d < suc (suc n)) l (λ d k. omega arith) (s .digits))
+          (omega arith, tt);
       all = λ r k. go r k (le-or-lt r n);
     }
   where
@@ -249,7 +240,8 @@ unfolding stepsOf
 found-chosen M at n g ds key h m s e =
     let start = at (replicate n 0) .delay in
     let step : ℕ → ℕ = λ i. i * start / (g - 1) in
-    let k = subst (Keyed M at (pointsOf (listed g step) n) (foundOf at n 0 g .best)) (sym (e ∙ keys-same M at step g ds s (start * M) n)) (found-keyed M at n g h m) in
+    let k = subst (Keyed M at (pointsOf (listed g step) n) (foundOf at n 0 g .best)) (sym (e ∙ keys-same M at step g ds s (start * M) n))
+    (found-keyed M at n g h m) in
     let i : key % M < g ^ n = omega (arith, k .inside, keyed-number k, points-count start g n) in
     (keyed-there k ∙ ap at (point-numbered step g n (key % M) i), sym (keyed-delay k), i)
 

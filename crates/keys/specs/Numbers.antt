@@ -7,7 +7,7 @@ use mathlib.Core.List.{List, [], _∷_, _++_}
 use Prim.Native.Nat.{ℕ, zero, suc, _+_, _*_, _/_, _%_, _≤_, _<_}
 use lib.Dec.{eqb}
 use Rattle.tree.specs.Grid.{Answer, flat}
-use Rattle.tree.specs.Searched.{Each}
+use Rattle.ground.specs.Each.{Each}
 
 -- the point of n groups with number i, where digit d stands for the extra `step d`
 abbrev pub pointAt : (ℕ → ℕ) → ℕ → ℕ → ℕ → List ℕ

@@ -19,8 +19,8 @@ use Rattle.curves.specs.Part.{changed}
 use Rattle.curves.specs.StageLaws.{le-greatest, catch-up-enough}
 use Rattle.curves.specs.PartLaws.{changed-inside, changed-outside, changed-length, all-slice}
 use Rattle.curves.specs.DelayLaws.{delay-by-wait, delay-after-offset}
-use Rattle.row.specs.Sums.{weigh}
-use Rattle.row.specs.declared.Flow.{Flow}
+use Rattle.tandem.specs.Sums.{weigh}
+use Rattle.tandem.specs.declared.Flow.{Flow}
 use Rattle.tree.specs.Plan.{headOf, tailOf}
 use Rattle.keys.specs.Left.{lagOf, leftBy, leftOf, stageAt, passes, burstsOn}
 
@@ -30,7 +30,8 @@ getD-there [] j h = absurd (omega arith)
 getD-there (s ∷ l) zero h = omega arith
 getD-there (s ∷ l) (suc j) h = omega (arith, getD-there l j h)
 
-pub passes-cases : (g : Flow) (j : ℕ) → ((passes g j ≡ true) × (g .first - 1 ≤ j) × (j < g .last)) ⊎ ((passes g j ≡ false) × ((j < g .first - 1) ⊎ (g .last ≤ j)))
+pub passes-cases : (g : Flow) (j : ℕ) → ((passes g j ≡ true) × (g .first - 1 ≤ j) × (j < g .last))
+    ⊎ ((passes g j ≡ false) × ((j < g .first - 1) ⊎ (g .last ≤ j)))
 unfolding passes
 passes-cases g j = by (leb (g .first - 1) j) (ltb j (g .last)) refl refl
   where
@@ -75,14 +76,18 @@ taken-line c g e x j h = go (passes-cases g j)
         → (1 ≤ stageAt c j .rate) × (weigh (passes g j) (g .burst) + line x (getD l j z) ≤ line (y + x) (stageAt c j))
     go (inl p) =
         let s = stageAt c j in
-        let d : getD l j z ≡ after (g .burst) (g .rate) y s = changed-inside (after (g .burst) (g .rate) y) (g .first - 1) (g .last) (c .stages) j z (p .1) (p .2) there in
+        let d : getD l j z ≡ after (g .burst) (g .rate) y s = changed-inside (after (g .burst) (g .rate) y) (g .first - 1) (g .last) (c .stages) j z
+        (p .1) (p .2) there in
         let r : 1 ≤ s .rate - g .rate = subst (λ (u : Stage). 1 ≤ u .rate) d h in
         let m : 1 ≤ s .rate = omega arith in
         let w : greatest (catchUp (g .burst)) (slice (g .first - 1) (g .last) (c .stages)) ≤ y = omega arith in
         let k : catchUp (g .burst) s ≤ y =
         all-slice (λ u. catchUp (g .burst) u ≤ y) (g .first - 1) (g .last) (c .stages) j z
-        (le-greatest (catchUp (g .burst)) y (slice (g .first - 1) (g .last) (c .stages)) w) (p .1) (p .2) there in
-        (m, rw (p .0) (subst (λ (u : Stage). g .burst + line x u ≤ line (y + x) s) (sym d) (stage-taken s (g .burst) (g .rate) y x (catch-up-enough (g .burst) y s m k))))
+        (le-greatest (catchUp (g .burst)) y (slice (g .first - 1) (g .last) (c .stages)) w) (p .1) (p .2) there in (
+          m,
+          rw (p .0) (subst (λ (u : Stage). g .burst + line x u ≤ line (y + x) s) (sym d)
+              (stage-taken s (g .burst) (g .rate) y x (catch-up-enough (g .burst) y s m k))),
+        )
     go (inr p) =
         let s = stageAt c j in
         let d : getD l j z ≡ s = changed-outside (after (g .burst) (g .rate) y) (g .first - 1) (g .last) (c .stages) j z (p .1) in

@@ -9,8 +9,8 @@ use lib.ListN.{length, getD, take, drop}
 use lib.Seq.{slice}
 use Rattle.curves.specs.declared.Stage.{Stage}
 use Rattle.curves.specs.Curve.{Shape, line, delay, All, Rates}
-use Rattle.row.specs.declared.Server.{Server}
-use Rattle.row.specs.declared.Flow.{Flow}
+use Rattle.tandem.specs.declared.Server.{Server}
+use Rattle.tandem.specs.declared.Flow.{Flow}
 use Rattle.tree.specs.Planned.{noFlow}
 use Rattle.keys.specs.Choose.{Climb}
 use Rattle.keys.specs.Left.{rowCurve, lagOf, leftBy, leftOf, burstsOn}

@@ -17,14 +17,14 @@ use Rattle.curves.specs.declared.Stage.{Stage}
 use Rattle.curves.specs.Curve.{Shape, line, after, delay, Rates}
 use Rattle.curves.specs.Part.{changed}
 use Rattle.curves.specs.PartLaws.{changed-outside}
-use Rattle.row.specs.Sums.{weigh}
-use Rattle.row.specs.declared.Server.{Server}
-use Rattle.row.specs.declared.Flow.{Flow}
-use Rattle.row.specs.TestLaws.{le-or-lt}
+use Rattle.tandem.specs.Sums.{weigh}
+use Rattle.tandem.specs.declared.Server.{Server}
+use Rattle.tandem.specs.declared.Flow.{Flow}
+use Rattle.ground.specs.OrderLaws.{le-or-lt}
 use Rattle.tree.specs.Plan.{headOf, tailOf}
 use Rattle.tree.specs.Grid.{flat}
-use Rattle.tree.specs.Searched.{Each}
-use Rattle.tree.specs.GridLaws.{each-append, each-map}
+use Rattle.ground.specs.Each.{Each}
+use Rattle.ground.specs.EachLaws.{each-append, each-map}
 use Rattle.tree.specs.Planned.{noFlow, answerOf}
 use Rattle.tree.specs.Ordered.{Placed, Ordered}
 use Rattle.keys.specs.Numbers.{keysBelow}
@@ -36,7 +36,8 @@ use Rattle.keys.specs.State.{State, state, chosen, climb, leftAt, wantOf
 use Rattle.keys.specs.UseLaws.{want-next}
 
 -- the groups behind are taken out first
-pub left-append : (c : Shape) (fs gs : List Flow) (es done : List ℕ) → length es ≡ length fs → leftOf c (fs ++ gs) (es ++ done) ≡ leftOf (leftOf c gs done) fs es
+pub left-append : (c : Shape) (fs gs : List Flow) (es done : List ℕ) → length es ≡ length fs → leftOf c (fs ++ gs) (es ++ done)
+    ≡ leftOf (leftOf c gs done) fs es
 unfolding leftOf
 left-append c [] gs [] done h = refl
 left-append c [] gs (e ∷ es) done h = absurd (omega arith)
@@ -167,7 +168,8 @@ module _ (M : ℕ) (w : Flow) (gs : List Flow) (step : ℕ → ℕ) (g : ℕ) (d
 
   -- each is that of some extras of the groups to come, with a number that is no less
   keys-of : (P : ℕ → Type 0) (k : ℕ) (s : State) → k ≤ length gs
-      → ((es : List ℕ) (N : ℕ) → length es ≡ k → s .number ≤ N → P (delay (leftOf (s .curve) (take k gs) es) (w .burst) (w .rate) * M + N)) → Each P (keysOver k s)
+      → ((es : List ℕ) (N : ℕ) → length es ≡ k → s .number ≤ N → P (delay (leftOf (s .curve) (take k gs) es) (w .burst) (w .rate) * M + N))
+      → Each P (keysOver k s)
   unfolding leftOf
   keys-of P zero s h f = (f [] (s .number) refl (omega arith), tt)
   keys-of P (suc k) s h f = each-blocks P (λ (d : ℕ). keysOver k (next d)) (λ d. keys-of P k (next d) (omega arith) (each d)) ds
@@ -216,7 +218,8 @@ module _ (M : ℕ) (w : Flow) (gs : List Flow) (step : ℕ → ℕ) (g : ℕ) (d
           omega (arith, b, m, n)
 
   -- (b) where a server lacks, no key below is below the best
-  pub keys-past-server : (k : ℕ) (s : State) (best j : ℕ) → 0 < M → k ≤ length gs → Rates 1 (leftOf (s .curve) (take k gs) [] .stages) → j < length (s .curve .stages)
+  pub keys-past-server : (k : ℕ) (s : State) (best j : ℕ) → 0 < M → k ≤ length gs → Rates 1 (leftOf (s .curve) (take k gs) [] .stages)
+      → j < length (s .curve .stages)
       → line (restOf M best (s .curve .offset) (s .number)) (stageAt (s .curve) j) < wantOf gs (w .burst + w .rate) k j
       → Each (λ x. best ≤ x) (keysOver k s)
   unfolding restOf
@@ -256,14 +259,16 @@ module _ (M : ℕ) (w : Flow) (gs : List Flow) (step : ℕ → ℕ) (g : ℕ) (d
 
   -- so where not every server under the path of the group just chosen gives what is wanted of it
   pub short-keys : (k : ℕ) (s : State) (best : ℕ) (f : Flow) → 0 < M → Moving gs k s
-      → givesUnder (wantOf gs (w .burst + w .rate) k) (restOf M best (s .curve .offset) (s .number)) f (s .curve .stages) ≡ false → Each (λ x. best ≤ x) (keysOver k s)
+      → givesUnder (wantOf gs (w .burst + w .rate) k) (restOf M best (s .curve .offset) (s .number)) f (s .curve .stages) ≡ false
+      → Each (λ x. best ≤ x) (keysOver k s)
   unfolding givesUnder
   short-keys k s best f big h e =
       let y = lacks-in (wantOf gs (w .burst + w .rate) k) (restOf M best (s .curve .offset) (s .number)) (f .first - 1) (f .last) (s .curve .stages) e in
       keys-past-server k s best (y .0) big (h .few) (h .moves) (y .3) (y .4)
 
   -- (b) where a server j beside the path of the next group lacks with the slots of digit d: with it and every later digit
-  pub keys-past-beside : 0 < M → ((d e : ℕ) → d ≤ e → step d ≤ step e) → (k : ℕ) (s : State) (best d j : ℕ) → Moving gs (suc k) s → j < length (s .curve .stages)
+  pub keys-past-beside : 0 < M → ((d e : ℕ) → d ≤ e → step d ≤ step e) → (k : ℕ) (s : State) (best d j : ℕ) → Moving gs (suc k) s
+      → j < length (s .curve .stages)
       → (j < getD gs k noFlow .first - 1) ⊎ (getD gs k noFlow .last ≤ j)
       → line (restOf M best (s .curve .offset + (lagOf (s .curve) (getD gs k noFlow) + step d)) (s .number + d * s .weight)) (stageAt (s .curve) j)
       < wantOf gs (w .burst + w .rate) (suc k) j
@@ -293,7 +298,8 @@ module _ (M : ℕ) (w : Flow) (gs : List Flow) (step : ℕ → ℕ) (g : ℕ) (d
       more = restOf M best (s .curve .offset + (lagOf (s .curve) q + step d)) (s .number + d * s .weight)
 
       same : stageAt (n .curve) j ≡ u
-      same = changed-outside (after (q .burst) (q .rate) (lagOf (s .curve) q + step e)) (q .first - 1) (q .last) (s .curve .stages) j (record { burst = 0; rate = 0 }) o
+      same = changed-outside (after (q .burst) (q .rate) (lagOf (s .curve) q + step e)) (q .first - 1) (q .last) (s .curve .stages) j
+          (record { burst = 0; rate = 0 }) o
 
       fewer : u .rate * rest ≤ u .rate * more
       fewer =
@@ -309,11 +315,13 @@ module _ (M : ℕ) (w : Flow) (gs : List Flow) (step : ℕ → ℕ) (g : ℕ) (d
   -- so where not every server beside its path gives what is wanted of it
   pub lacking-keys : 0 < M → ((d e : ℕ) → d ≤ e → step d ≤ step e) → (k : ℕ) (s : State) (best d : ℕ) → Moving gs (suc k) s
       → givesBeside (wantOf gs (w .burst + w .rate) (suc k))
-      (restOf M best (s .curve .offset + (lagOf (s .curve) (getD gs k noFlow) + step d)) (s .number + d * s .weight)) (getD gs k noFlow) (s .curve .stages) ≡ false
+      (restOf M best (s .curve .offset + (lagOf (s .curve) (getD gs k noFlow) + step d)) (s .number + d * s .weight)) (getD gs k noFlow)
+      (s .curve .stages) ≡ false
       → (e : ℕ) → d ≤ e → Each (λ x. best ≤ x) (keysOver k (chosen step g (getD gs k noFlow) s e))
   lacking-keys big rises k s best d h t e l =
       let q = getD gs k noFlow in
-      let y = lacks-beside (wantOf gs (w .burst + w .rate) (suc k)) (restOf M best (s .curve .offset + (lagOf (s .curve) q + step d)) (s .number + d * s .weight)) q (s .curve .stages) t in
+      let y = lacks-beside (wantOf gs (w .burst + w .rate) (suc k))
+      (restOf M best (s .curve .offset + (lagOf (s .curve) q + step d)) (s .number + d * s .weight)) q (s .curve .stages) t in
       keys-past-beside big rises k s best d (y .0) h (y .2) (y .1) (y .3) e l
 
   -- the states and the points of the grid: a row whose flows are placed and in order

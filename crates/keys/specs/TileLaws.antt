@@ -13,13 +13,13 @@ use lib.Dec.{eqb}
 use lib.ListN.{length, getD}
 use Rattle.curves.specs.declared.Stage.{Stage}
 use Rattle.curves.specs.Curve.{Shape, neutral, joined, after}
-use Rattle.curves.specs.SlotsLaws.{le-or-lt}
+use Rattle.ground.specs.OrderLaws.{le-or-lt}
 use Rattle.curves.specs.JoinLaws.{joined-neutral, neutral-joined, joined-assoc}
-use Rattle.row.specs.declared.Server.{Server}
-use Rattle.row.specs.declared.Flow.{Flow}
+use Rattle.tandem.specs.declared.Server.{Server}
+use Rattle.tandem.specs.declared.Flow.{Flow}
 use Rattle.tree.specs.Plan.{Node, Top, alone, over, topOf, serverCurve, along, nodeCurve}
-use Rattle.tree.specs.Searched.{Each}
-use Rattle.tree.specs.GridLaws.{each-map}
+use Rattle.ground.specs.Each.{Each}
+use Rattle.ground.specs.EachLaws.{each-map}
 use Rattle.tree.specs.Ordered.{Placed, After, Ordered}
 use Rattle.tree.specs.NodeLaws.{along-alone, along-over, along-end}
 use Rattle.keys.specs.Cells.{cellAt, stagesFrom, sumFrom, curveFrom, Left, Pooled}
@@ -178,19 +178,19 @@ module _ (ss : List Server) (gs : List Flow) (ns : List Node) (bs rs sh : List �
     abbrev Closed : ℕ → Type 0
     Closed e = Each (λ h. (e < h .first) ⊎ (h .last ≤ e)) gs
 
-    abbrev Walk : ℕ → Type 0
-    Walk n = (c : Shape) (i e : ℕ) → Border gs i → Closed e → e ≤ i + n → e ≤ length ss → i ≤ e
+    abbrev AlongTiles : ℕ → Type 0
+    AlongTiles n = (c : Shape) (i e : ℕ) → Border gs i → Closed e → e ≤ i + n → e ≤ length ss → i ≤ e
         → along ss (topOf gs ns) n c (suc i) e ≡ joined c (curveFrom bs rs sh i (e - i))
 
-    walk-ended : (n : ℕ) (c : Shape) (i e : ℕ) → e ≤ i → along ss (topOf gs ns) n c (suc i) e ≡ joined c (curveFrom bs rs sh i (e - i))
-    walk-ended n c i e h =
+    along-ended : (n : ℕ) (c : Shape) (i e : ℕ) → e ≤ i → along ss (topOf gs ns) n c (suc i) e ≡ joined c (curveFrom bs rs sh i (e - i))
+    along-ended n c i e h =
         along-end ss (topOf gs ns) n c (suc i) e (omega arith)
         ∙ sym (joined-neutral c) ∙ ap (λ (d : Shape). joined c d) (sym (curve-none bs rs sh i (e - i) (omega arith)))
 
-    walk-piece : (n : ℕ) → Walk n → (c : Shape) (i e : ℕ) → Closed e → e ≤ i + suc n → e ≤ length ss → i < e
+    along-piece : (n : ℕ) → AlongTiles n → (c : Shape) (i e : ℕ) → Closed e → e ≤ i + suc n → e ≤ length ss → i < e
         → (t : Top) → topOf gs ns (suc i) ≡ t → Begins gs i t → Tile ss bs rs sh i t
         → along ss (topOf gs ns) (suc n) c (suc i) e ≡ joined c (curveFrom bs rs sh i (e - i))
-    walk-piece n r c i e w f h k alone s b t =
+    along-piece n r c i e w f h k alone s b t =
         let u : suc i - i ≡ 1 = omega arith in
         let v : curveFrom bs rs sh i (suc i - i) ≡ serverCurve ss (suc i) = rw u t in
         along-alone ss (topOf gs ns) n c (suc i) e (omega arith) s
@@ -198,7 +198,7 @@ module _ (ss : List Server) (gs : List Flow) (ns : List Node) (bs rs sh : List �
         ∙ joined-assoc c (serverCurve ss (suc i)) (curveFrom bs rs sh (suc i) (e - suc i))
         ∙ ap (λ (d : Shape). joined c (joined d (curveFrom bs rs sh (suc i) (e - suc i)))) (sym v)
         ∙ ap (λ (d : Shape). joined c d) (sym (curve-split bs rs sh i (suc i) e (omega arith) (omega arith)))
-    walk-piece n r c i e w f h k (over d l) s b t =
+    along-piece n r c i e w f h k (over d l) s b t =
         let m = b .closed e w k in
         along-over ss (topOf gs ns) n c d (suc i) l e (omega arith) s
         ∙ r (joined c d) l e (b .border) w (omega (arith, b .onward)) h m
@@ -206,14 +206,14 @@ module _ (ss : List Server) (gs : List Flow) (ns : List Node) (bs rs sh : List �
         ∙ ap (λ (x : Shape). joined c (joined x (curveFrom bs rs sh l (e - l)))) (sym t)
         ∙ ap (λ (x : Shape). joined c x) (sym (curve-split bs rs sh i l e (omega (arith, b .onward)) m))
 
-    walk : (n : ℕ) → Walk n
-    walk zero c i e b w f h k = walk-ended zero c i e (omega arith)
-    walk (suc n) c i e b w f h k = by (walk n) (le-or-lt e i)
+    along-tiles : (n : ℕ) → AlongTiles n
+    along-tiles zero c i e b w f h k = along-ended zero c i e (omega arith)
+    along-tiles (suc n) c i e b w f h k = by (along-tiles n) (le-or-lt e i)
       where
-        by : Walk n → (e ≤ i) ⊎ (i < e) → along ss (topOf gs ns) (suc n) c (suc i) e ≡ joined c (curveFrom bs rs sh i (e - i))
-        by r (inl a) = walk-ended (suc n) c i e a
+        by : AlongTiles n → (e ≤ i) ⊎ (i < e) → along ss (topOf gs ns) (suc n) c (suc i) e ≡ joined c (curveFrom bs rs sh i (e - i))
+        by r (inl a) = along-ended (suc n) c i e a
         by r (inr a) =
-            walk-piece n r c i e w f h a (topOf gs ns (suc i)) refl (begins (length ss) gs ns i q o p b) (tiled i (omega arith) b)
+            along-piece n r c i e w f h a (topOf gs ns (suc i)) refl (begins (length ss) gs ns i q o p b) (tiled i (omega arith) b)
 
     -- the curve of a path before the groups gs is the stretch of the line under it
     pub curve-is : (g : Flow) → Placed (length ss) g → Each (After g) gs
@@ -222,7 +222,7 @@ module _ (ss : List Server) (gs : List Flow) (ns : List Node) (bs rs sh : List �
     curve-is g s a =
         let e : suc (g .first - 1) ≡ g .first = omega (arith, s .enters) in
         subst (λ (j : ℕ). along ss (topOf gs ns) (length ss) neutral j (g .last) ≡ curveFrom bs rs sh (g .first - 1) (g .last - (g .first - 1))) e
-        (walk (length ss) neutral (g .first - 1) (g .last)
+        (along-tiles (length ss) neutral (g .first - 1) (g .last)
         (each-map (After g) (λ h. (g .first - 1 < h .first) ⊎ (h .last ≤ g .first - 1)) gs (λ h x. inl (omega (arith, x .onward, s .enters))) a)
         (each-map (After g) (λ h. (g .last < h .first) ⊎ (h .last ≤ g .last)) gs (λ h x. x .nested) a)
         (omega (arith, s .leaves)) (s .leaves) (omega (arith, s .onward))

@@ -8,15 +8,15 @@ use Prim.Native.Nat.{ℕ, zero, suc, _+_, _*_, _≤_, _<_}
 use native.Mathlib.Omega.{arith}
 use lib.ListN.{length, getD, take, drop}
 use lib.Seq.{take-all}
-use Rattle.row.specs.declared.Flow.{Flow}
+use Rattle.tandem.specs.declared.Flow.{Flow}
 use Rattle.tree.specs.Grid.{flat}
-use Rattle.tree.specs.Searched.{Each}
-use Rattle.tree.specs.GridLaws.{each-append}
+use Rattle.ground.specs.Each.{Each}
+use Rattle.ground.specs.EachLaws.{each-append}
+use Rattle.tree.specs.GridLaws.{each-flat}
 use Rattle.tree.specs.Planned.{noFlow}
 use Rattle.keys.specs.Keys.{leastOf}
 use Rattle.keys.specs.KeyLaws.{least-stays}
 use Rattle.keys.specs.Numbers.{Growing}
-use Rattle.keys.specs.NumberLaws.{each-flat}
 use Rattle.keys.specs.ChooseLaws.{least-more, least-rest}
 use Rattle.keys.specs.Left.{lagOf}
 use Rattle.keys.specs.State.{State, chosen, wantOf, restOf, givesBeside, givesUnder, Moving}
@@ -28,7 +28,8 @@ value-at step [] i h = absurd (omega arith)
 value-at step (d ∷ ds) zero h = refl
 value-at step (d ∷ ds) (suc i) h = value-at step ds i (omega arith)
 
-each-drop : (P : ℕ → Type 0) (h : ℕ → List ℕ) (ds : List ℕ) (i : ℕ) → Growing ds → i < length ds → ((e : ℕ) → getD ds i 0 ≤ e → Each P (h e)) → Each P (flat h (drop i ds))
+each-drop : (P : ℕ → Type 0) (h : ℕ → List ℕ) (ds : List ℕ) (i : ℕ) → Growing ds → i < length ds → ((e : ℕ) → getD ds i 0 ≤ e → Each P (h e))
+    → Each P (flat h (drop i ds))
 each-drop P h [] i r p f = absurd (omega arith)
 each-drop P h (d ∷ ds) zero r p f =
     let z : d ≤ d = omega arith in
@@ -57,9 +58,11 @@ module _ (M : ℕ) (w : Flow) (gs : List Flow) (step : ℕ → ℕ) (g : ℕ) (d
     turned-all h = t .is ∙ ap (λ (l : List ℕ). leastOf best (flat below l)) (take-all i ds h)
 
     -- out: no key of this step or of a later one is below the best
-    passed-rest : Growing ds → i < length ds → ((e : ℕ) → getD ds i 0 ≤ e → Each (λ y. b ≤ y) (below e)) → b ≡ leastOf best (keysOver M w gs step g ds (suc k) s)
+    passed-rest : Growing ds → i < length ds → ((e : ℕ) → getD ds i 0 ≤ e → Each (λ y. b ≤ y) (below e))
+        → b ≡ leastOf best (keysOver M w gs step g ds (suc k) s)
     passed-rest r p h =
-        t .is ∙ sym (least-rest best below ds i (subst (λ (x : ℕ). Each (λ y. x ≤ y) (flat below (drop i ds))) (t .is) (each-drop (λ y. b ≤ y) below ds i r p h)))
+        t .is ∙ sym (least-rest best below ds i
+        (subst (λ (x : ℕ). Each (λ y. x ≤ y) (flat below (drop i ds))) (t .is) (each-drop (λ y. b ≤ y) below ds i r p h)))
 
     -- the slots with it have reached the best
     pub passed-late : k < length gs → Growing ds → ((d e : ℕ) → d ≤ e → step d ≤ step e) → i < length ds
@@ -86,4 +89,5 @@ module _ (M : ℕ) (w : Flow) (gs : List Flow) (step : ℕ → ℕ) (g : ℕ) (d
         → Turned b (i + 1)
     turned-past big m p e =
         let n = chosen step g group s (getD ds i 0) in
-        turned-more b p (sym (least-stays b (below (getD ds i 0)) (short-keys M w gs step g ds k n b group big (moving-next M w gs step g ds k s (getD ds i 0) m) e)))
+        turned-more b p (sym
+        (least-stays b (below (getD ds i 0)) (short-keys M w gs step g ds k n b group big (moving-next M w gs step g ds k s (getD ds i 0) m) e)))

@@ -14,11 +14,11 @@ use Rattle.curves.specs.Held.{Live, Leaves}
 use Rattle.curves.specs.Part.{changed}
 use Rattle.curves.specs.StageLaws.{all-weaken, le-greatest, catch-up-enough}
 use Rattle.curves.specs.PartLaws.{changed-inside, changed-length, all-slice}
-use Rattle.row.specs.Sums.{weigh}
-use Rattle.row.specs.declared.Server.{Server}
-use Rattle.row.specs.declared.Flow.{Flow}
+use Rattle.tandem.specs.Sums.{weigh}
+use Rattle.tandem.specs.declared.Server.{Server}
+use Rattle.tandem.specs.declared.Flow.{Flow}
 use Rattle.tree.specs.Plan.{nodeOf, nodeCurve, plan}
-use Rattle.tree.specs.Searched.{Each}
+use Rattle.ground.specs.Each.{Each}
 use Rattle.tree.specs.Amounts.{sumOf}
 use Rattle.tree.specs.PruneLaws.{latenciesOf}
 use Rattle.tree.specs.Planned.{noFlow}
@@ -37,7 +37,8 @@ bursts-append [] gs j = omega arith
 bursts-append (f ∷ fs) gs j = omega (arith, bursts-append fs gs j)
 
 -- a group less is to come
-pub want-next : (gs : List Flow) (bytes k j : ℕ) → k < length gs → wantOf gs bytes (suc k) j ≡ wantOf gs bytes k j + weigh (passes (getD gs k noFlow) j) (getD gs k noFlow .burst)
+pub want-next : (gs : List Flow) (bytes k j : ℕ) → k < length gs
+    → wantOf gs bytes (suc k) j ≡ wantOf gs bytes k j + weigh (passes (getD gs k noFlow) j) (getD gs k noFlow .burst)
 unfolding burstsOn
 want-next gs bytes k j h =
     let e = ap (λ (l : List Flow). burstsOn l j) (take-suc gs k noFlow h) in
@@ -118,7 +119,8 @@ pub small-next : (B : ℕ) (c : Shape) (g : Flow) (x : ℕ) → Small B c → Sm
 unfolding leftBy
 small-next B c g x h =
     record {
-      stages = all-changed (λ s. (s .rate ≤ B) × (s .burst ≤ B * c .offset)) (λ s. (s .rate ≤ B) × (s .burst ≤ B * (c .offset + x))) (after (g .burst) (g .rate) x)
+      stages = all-changed (λ s. (s .rate ≤ B) × (s .burst ≤ B * c .offset)) (λ s. (s .rate ≤ B) × (s .burst ≤ B * (c .offset + x)))
+          (after (g .burst) (g .rate) x)
           (λ s p. (omega (arith, p .0), omega (arith, p .1, mul-le-mul-right x (p .0), mul-add B (c .offset) x)))
           (λ s p. (p .0, omega (arith, p .1, mul-add B (c .offset) x))) (g .first - 1) (g .last) (c .stages) (h .stages);
     }
@@ -131,12 +133,14 @@ small-line B c x h =
 pub small-line-at : (B : ℕ) (c : Shape) (x j : ℕ) → Small B c → j < length (c .stages) → line x (stageAt c j) ≤ B * (c .offset + x)
 small-line-at B c x j h p = all-at (λ s. line x s ≤ B * (c .offset + x)) (c .stages) j (record { burst = 0; rate = 0 }) (small-line B c x h) p
 
-slice-all : (P : Stage → Type 0) (a b : ℕ) (l : List Stage) → ((j : ℕ) → a ≤ j → j < b → j < length l → P (getD l j (record { burst = 0; rate = 0 }))) → All P (slice a b l)
+slice-all : (P : Stage → Type 0) (a b : ℕ) (l : List Stage) → ((j : ℕ) → a ≤ j → j < b → j < length l → P (getD l j (record { burst = 0; rate = 0 })))
+    → All P (slice a b l)
 slice-all P zero zero l h = tt
 slice-all P (suc a) zero l h = tt
 slice-all P zero (suc b) [] h = tt
 slice-all P (suc a) (suc b) [] h = tt
-slice-all P zero (suc b) (s ∷ l) h = (h 0 (omega arith) (omega arith) (omega arith), slice-all P zero b l (λ j p q r. h (suc j) (omega arith) (omega arith) (omega arith)))
+slice-all P zero (suc b) (s ∷ l) h =
+    (h 0 (omega arith) (omega arith) (omega arith), slice-all P zero b l (λ j p q r. h (suc j) (omega arith) (omega arith) (omega arith)))
 slice-all P (suc a) (suc b) (s ∷ l) h = slice-all P a b l (λ j p q r. h (suc j) (omega arith) (omega arith) (omega arith))
 
 -- the stages under a path are in range for their lag

@@ -7,35 +7,21 @@ use native.Mathlib.Numerals.{add-one}
 use native.Mathlib.Omega.{arith}
 use lib.ListN.{length, getD, drop, length-append}
 use lib.Seq.{sets, length-sets, drop-cons}
-use Rattle.row.specs.declared.Flow.{Flow}
+use Rattle.tandem.specs.declared.Flow.{Flow}
 use Rattle.listing.specs.Text.{groupLine}
-use Rattle.sheet.proofs.Writing.{sets-append}
+use Rattle.text.specs.Contract.{Put}
+use Rattle.ground.specs.BufferLaws.{sets-append}
+use Rattle.text.specs.PutLaws.{put-then, put-long}
 use Rattle.listing.specs.Held.{linesOf}
 
--- these bytes were put at a place: the place behind them, and what the page then holds
-abbrev pub Puts : List ℕ → List ℕ → ℕ → ℕ → List ℕ → Type 0
-Puts bytes before at r after = (r ≡ at + length bytes) × (after ≡ sets before at bytes)
-
-pub put-then : (a b before : List ℕ) (at : ℕ) {mid after : List ℕ} {p r : ℕ} → Puts a before at p mid → Puts b mid p r after → Puts (a ++ b) before at r after
-put-then a b before at {mid} {after} {p} {r} x y =
-    (omega (arith, x .0, y .0, length-append a b), rw (sets-append before at a b, ← x .1, ← x .0) (y .1))
-
-pub put-three : (a b c before : List ℕ) (at : ℕ) {first second after : List ℕ} {p q r : ℕ} → Puts a before at p first → Puts b first p q second
-    → Puts c second q r after → Puts (a ++ (b ++ c)) before at r after
+pub put-three : (a b c before : List ℕ) (at : ℕ) {first second after : List ℕ} {p q r : ℕ} → Put a before at p first → Put b first p q second
+    → Put c second q r after → Put (a ++ (b ++ c)) before at r after
 put-three a b c before at {first} {second} {after} {p} {q} {r} x y z = put-then a (b ++ c) before at x (put-then b c first p y z)
 
-pub put-four : (a b c d before : List ℕ) (at : ℕ) {first second third after : List ℕ} {p q r e : ℕ} → Puts a before at p first → Puts b first p q second
-    → Puts c second q r third → Puts d third r e after → Puts (a ++ (b ++ (c ++ d))) before at e after
+pub put-four : (a b c d before : List ℕ) (at : ℕ) {first second third after : List ℕ} {p q r e : ℕ} → Put a before at p first → Put b first p q second
+    → Put c second q r third → Put d third r e after → Put (a ++ (b ++ (c ++ d))) before at e after
 put-four a b c d before at {first} {second} {third} {after} {p} {q} {r} {e} x y z w =
     put-then a (b ++ (c ++ d)) before at x (put-three b c d first p y z w)
-
--- a page stays as long as it was
-pub put-long : (a before : List ℕ) (at : ℕ) {mid : List ℕ} {p : ℕ} → Puts a before at p mid → length mid ≡ length before
-put-long a before at {mid} {p} x = ap length (x .1) ∙ length-sets before at a
-
--- where there was room for these bytes and for more, there is room for the others behind them
-pub room-behind : (a before : List ℕ) (at others : ℕ) {mid : List ℕ} {p : ℕ} → Puts a before at p mid → at + (length a + others) ≤ length before → p + others ≤ length mid
-room-behind a before at others {mid} {p} x h = omega (arith, x .0, put-long a before at x)
 
 -- the lines of the groups: what is left to put is the lines of the groups from i on
 pub record Filling (groups : List Flow) (waits : List ℕ) (n : ℕ) (first : List ℕ) (from : ℕ) (page : List ℕ) (at i : ℕ) : Type 0 where
@@ -78,15 +64,15 @@ module _ {groups : List Flow} {waits first page : List ℕ} {n from at i : ℕ} 
       omega (arith, f .place, f .long, ap length (m .next), length-append (lineAt groups waits i) (linesOf (m .rest) (drop (suc (i + 1)) groups) (drop (i + 1) waits)))
 
   pub turn-filling : {page′ : List ℕ} {at′ : ℕ} → i < n → suc i < length groups → i < length waits
-      → Puts (lineAt groups waits i) page at at′ page′ → Filling groups waits n first from page′ at′ (i + 1)
+      → Put (lineAt groups waits i) page at at′ page′ → Filling groups waits n first from page′ at′ (i + 1)
   turn-filling {page′} {at′} h g w p =
       let m = more (f .left) groups waits n i (f .turns) h g w in
       let rest = linesOf (m .rest) (drop (suc (i + 1)) groups) (drop (i + 1) waits) in
       record {
         left = m .rest;
         turns = m .turns;
-        place = omega (arith, f .place, ap length (m .next), length-append (lineAt groups waits i) rest, p .0);
-        same = f .same ∙ rw (m .next, sets-append page at (lineAt groups waits i) rest, ← p .1, ← p .0);
+        place = omega (arith, f .place, ap length (m .next), length-append (lineAt groups waits i) rest, p .next);
+        same = f .same ∙ rw (m .next, sets-append page at (lineAt groups waits i) rest, ← p .stored, ← p .next);
         long = put-long (lineAt groups waits i) page at p ∙ f .long;
       }
 
@@ -96,7 +82,7 @@ ended zero groups waits n i e h = refl
 ended (suc k) groups waits n i e h = absurd (omega arith)
 
 pub filled : {groups : List Flow} {waits first page : List ℕ} {n from at i : ℕ} → Filling groups waits n first from page at i → n ≤ i
-    → Puts (linesOf n (drop 1 groups) waits) first from at page
+    → Put (linesOf n (drop 1 groups) waits) first from at page
 filled {groups} {waits} {first} {page} {n} {from} {at} {i} f h =
     let e = ended (f .left) groups waits n i (f .turns) h in
-    (omega (arith, f .place, ap length e), sym (f .same ∙ rw e))
+    record { next = omega (arith, f .place, ap length e); stored = sym (f .same ∙ rw e) }

@@ -4,23 +4,27 @@ use mathlib.Core.Path.{_≡_, refl}
 use mathlib.Core.List.{List, [], _∷_, _++_}
 use Prim.Native.Nat.{ℕ}
 use Rattle.numbers.specs.Seven.{numberAt}
-use Rattle.sheet.specs.Rule.{ruleAt, serverNumbers, seenAfter}
-use Rattle.sheet.specs.Sheet.{stepOn, sheetOf}
+use Rattle.fields.specs.Rule.{ruleAt, fieldAt, seenAfter}
+use Rattle.fields.specs.Step.{stepOn}
+use Rattle.sheet.specs.Sheet.{sheetOf}
 use Rattle.curves.specs.Curve.{server, neutral, joined, ceil, greatest, catchUp, leastWait, remainder, lateness, delay}
-use Rattle.row.specs.Sums.{total, any}
-use Rattle.row.specs.Tandem.{crosses, on, bursts, rates}
+use Rattle.tandem.specs.Sums.{total, any}
+use Rattle.tandem.specs.Tandem.{crosses, on, bursts, rates}
 use Rattle.row.specs.Groups.{used, from, from-on, groups, grouped, reads}
-use Rattle.row.specs.Checks.{overlaps, notNested, crowded, lowestCrowded, tooMany}
-use Rattle.row.specs.OfSheet.{listed, tandemOf, gridOf, checkOf}
+use Rattle.tandem.specs.Crowded.{crowded, lowestCrowded}
+use Rattle.row.specs.Checks.{overlaps, notNested, tooMany}
+use Rattle.tandem.specs.OfSheet.{listed, tandemOf}
+use Rattle.row.specs.OfSheet.{gridOf, checkOf}
 use Rattle.tree.specs.Grid.{stepsOf, pointsOf, better, foundOf}
 use Rattle.tree.specs.Stretch.{groupWait, afterGroup, curve}
-use Rattle.tree.specs.Tree.{walk, top, tree}
+use Rattle.tree.specs.Tree.{stretchFrom, top, tree}
 use Rattle.tree.specs.Bound.{bound, waits, answerAt, searched}
 use Rattle.tree.specs.Plan.{plan, nodeOf, nodeCurve, along, topOf}
 use Rattle.tree.specs.Large.{tooLarge, largeAt, some, largeNode, largeCurve}
 use Rattle.text.specs.Decimal.{decimal}
-use Rattle.analysis.specs.Verdict.{listingOf, verdictOf}
-use Rattle.listing.specs.Text.{field, line, groupLine, groupLines, figureLines, refusalLine, textOf}
+use Rattle.text.specs.Lines.{field, line, refusalLine}
+use Rattle.analysis.specs.Verdict.{listingOf, verdictOn, verdictOf}
+use Rattle.listing.specs.Text.{groupLine, groupLines, figureLines, reportOf}
 
 -- P7: R 10, T 0; cross 10, 6; watched 12, 4; g 4
 abbrev pub sheet7 : List ℕ
@@ -34,8 +38,11 @@ text7 =
     ++ (103 ∷ 114 ∷ 105 ∷ 100 ∷ 32 ∷ 52 ∷ 10 ∷ [])
     ++ (103 ∷ 114 ∷ 111 ∷ 117 ∷ 112 ∷ 32 ∷ 49 ∷ 32 ∷ 49 ∷ 32 ∷ 119 ∷ 97 ∷ 105 ∷ 116 ∷ 32 ∷ 50 ∷ 10 ∷ [])
 
-pub report7 : textOf (verdictOf sheet7) ≡ text7
-unfolding textOf refusalLine figureLines groupLines groupLine line field decimal verdictOf listingOf searched foundOf stepsOf listed pointsOf better answerAt bound waits tree top walk curve afterGroup groupWait server neutral joined ceil greatest catchUp leastWait remainder lateness delay total any crosses on bursts rates used from from-on groups grouped reads overlaps notNested crowded lowestCrowded tooMany tooLarge largeAt some largeNode largeCurve plan nodeOf nodeCurve along topOf tandemOf gridOf checkOf sheetOf stepOn ruleAt serverNumbers seenAfter numberAt
+pub report7 : reportOf (verdictOf sheet7) ≡ text7
+unfolding reportOf refusalLine figureLines groupLines groupLine line field decimal verdictOf verdictOn listingOf searched foundOf stepsOf listed
+    pointsOf better answerAt bound waits tree top stretchFrom curve afterGroup groupWait server neutral joined ceil greatest catchUp leastWait remainder
+    lateness delay total any crosses on bursts rates used from from-on groups grouped reads overlaps notNested crowded lowestCrowded tooMany tooLarge
+    largeAt some largeNode largeCurve plan nodeOf nodeCurve along topOf tandemOf gridOf checkOf sheetOf stepOn ruleAt fieldAt seenAfter numberAt
 report7 = refl
 
 -- P8: three servers 10, 1; cross 4, 2 on (1,1), (2,3), (3,3); watched 6, 2; g 2
@@ -53,8 +60,11 @@ text8 =
     ++ (103 ∷ 114 ∷ 111 ∷ 117 ∷ 112 ∷ 32 ∷ 50 ∷ 32 ∷ 51 ∷ 32 ∷ 119 ∷ 97 ∷ 105 ∷ 116 ∷ 32 ∷ 52 ∷ 10 ∷ [])
     ++ (103 ∷ 114 ∷ 111 ∷ 117 ∷ 112 ∷ 32 ∷ 51 ∷ 32 ∷ 51 ∷ 32 ∷ 119 ∷ 97 ∷ 105 ∷ 116 ∷ 32 ∷ 50 ∷ 10 ∷ [])
 
-pub report8 : textOf (verdictOf sheet8) ≡ text8
-unfolding textOf refusalLine figureLines groupLines groupLine line field decimal verdictOf listingOf searched foundOf stepsOf listed pointsOf better answerAt bound waits tree top walk curve afterGroup groupWait server neutral joined ceil greatest catchUp leastWait remainder lateness delay total any crosses on bursts rates used from from-on groups grouped reads overlaps notNested crowded lowestCrowded tooMany tooLarge largeAt some largeNode largeCurve plan nodeOf nodeCurve along topOf tandemOf gridOf checkOf sheetOf stepOn ruleAt serverNumbers seenAfter numberAt
+pub report8 : reportOf (verdictOf sheet8) ≡ text8
+unfolding reportOf refusalLine figureLines groupLines groupLine line field decimal verdictOf verdictOn listingOf searched foundOf stepsOf listed
+    pointsOf better answerAt bound waits tree top stretchFrom curve afterGroup groupWait server neutral joined ceil greatest catchUp leastWait remainder
+    lateness delay total any crosses on bursts rates used from from-on groups grouped reads overlaps notNested crowded lowestCrowded tooMany tooLarge
+    largeAt some largeNode largeCurve plan nodeOf nodeCurve along topOf tandemOf gridOf checkOf sheetOf stepOn ruleAt fieldAt seenAfter numberAt
 report8 = refl
 
 -- P10: R 10, rates 6 and 5
@@ -65,14 +75,15 @@ sheet10 = 1 ∷ 1 ∷ 10 ∷ 0 ∷ 1 ∷ 1 ∷ 1 ∷ 1 ∷ 6 ∷ 1 ∷ 5 ∷ 0 �
 abbrev pub text10 : List ℕ
 text10 = 114 ∷ 101 ∷ 102 ∷ 117 ∷ 115 ∷ 101 ∷ 100 ∷ 32 ∷ 55 ∷ 32 ∷ 97 ∷ 116 ∷ 32 ∷ 49 ∷ 10 ∷ []
 
-pub report10 : textOf (verdictOf sheet10) ≡ text10
-unfolding textOf refusalLine line field decimal verdictOf listed total any crosses on bursts rates used from from-on groups overlaps notNested crowded lowestCrowded tooMany tandemOf gridOf checkOf sheetOf stepOn ruleAt serverNumbers seenAfter numberAt
+pub report10 : reportOf (verdictOf sheet10) ≡ text10
+unfolding reportOf refusalLine line field decimal verdictOf verdictOn listed total any crosses on bursts rates used from from-on groups overlaps
+    notNested crowded lowestCrowded tooMany tandemOf gridOf checkOf sheetOf stepOn ruleAt fieldAt seenAfter numberAt
 report10 = refl
 
 -- "refused 1 at 0": the first number is missing
 abbrev pub text0 : List ℕ
 text0 = 114 ∷ 101 ∷ 102 ∷ 117 ∷ 115 ∷ 101 ∷ 100 ∷ 32 ∷ 49 ∷ 32 ∷ 97 ∷ 116 ∷ 32 ∷ 48 ∷ 10 ∷ []
 
-pub report0 : textOf (verdictOf []) ≡ text0
-unfolding textOf refusalLine line field decimal verdictOf sheetOf stepOn ruleAt serverNumbers seenAfter numberAt
+pub report0 : reportOf (verdictOf []) ≡ text0
+unfolding reportOf refusalLine line field decimal verdictOf verdictOn sheetOf stepOn ruleAt fieldAt seenAfter numberAt
 report0 = refl

@@ -1,38 +1,40 @@
--- The record's text is the verdict's: both go by the same sheet and the same check of its row; and a sheet's text is short.
+-- The record's text is the verdict's: both go by the same two cases of a sheet's bytes; and a report has room on a page.
 -- Assumes nothing.
 use Prim.Native.Nat.{ℕ, zero, suc, _-_, _≤_}
 use mathlib.Core.Path.{_≡_, refl, ap}
-use mathlib.Core.Bool.{true, false}
 use mathlib.Core.List.{List, [], _∷_, _++_, map}
 use native.Mathlib.Omega.{arith}
 use lib.ListN.{length, replicate}
-use Rattle.sheet.specs.Sheet.{Found, fail, these, sheetOf}
-use Rattle.sheet.specs.TripLaws.{read-valid}
-use Rattle.row.specs.declared.Flow.{Flow}
-use Rattle.row.specs.declared.Check.{Check}
-use Rattle.row.specs.declared.Check.the-variants as check
-use Rattle.row.specs.Tandem.{Tandem, Path}
+use Rattle.fields.specs.declared.Why.{Why}
+use Rattle.fields.specs.Refusal.{refusal}
+use Rattle.tandem.specs.declared.Flow.{Flow}
+use Rattle.tandem.specs.Tandem.{Tandem, Path}
+use Rattle.tandem.specs.OfSheet.{tandemOf}
 use Rattle.row.specs.Groups.{groups, grouped, reads}
-use Rattle.row.specs.CountLaws.{few-groups}
-use Rattle.row.specs.OfSheet.{tandemOf, rowOf, checkOf}
-use Rattle.row.specs.OfSheetLaws.{passed-row}
-use Rattle.analysis.specs.declared.Judged.{Judged}
-use Rattle.analysis.specs.declared.Judged.the-variants.{Refused, Crossing, Crowded, Points, TooLarge, Bounded}
+use Rattle.row.specs.OfSheet.{rowOf}
+use Rattle.text.specs.declared.Printed.{Printed}
+use Rattle.text.specs.declared.Printed.the-variants.{Answer, Refusal}
+use Rattle.text.specs.Lines.{refusalLine, bytesOf}
+use Rattle.text.specs.LinesLaws.{refusal-short}
+use Rattle.analysis.specs.declared.Judged.the-variants.{Refused, Bounded}
 use Rattle.analysis.specs.declared.Analysed.{Analysed}
-use Rattle.analysis.specs.Verdict.{isBounded, Listing, listingOf, judgedRow, verdictWhere, onSheet, verdictOf, judgedNumber, judgedDetail}
-use Rattle.analysis.specs.Held.{filled, heldWhere, judgedHeld, sheetHeld, analysedOf}
-use Rattle.listing.specs.Text.{groupLine, groupLines, figureLines, refusalLine, textOf}
-use Rattle.listing.specs.TextLaws.{groups-short, figures-short, refusal-short}
-use Rattle.listing.specs.Held.{linesOf, groupsHeld, listingHeld, textHeld}
+use Rattle.analysis.specs.Verdict.{listingOf, Verdict, refused, bounded, verdictOf}
+use Rattle.analysis.specs.Held.{filled, analysedOf}
+use Rattle.analysis.specs.VerdictLaws.{Case, refusing, listing, case-of, listing-small}
+use Rattle.listing.specs.Text.{groupLine, groupLines, reportOf, printedOf, pageMost}
+use Rattle.listing.specs.Contract.{Report}
+use Rattle.listing.specs.TextLaws.{groups-short, figures-short}
+use Rattle.listing.specs.Held.{linesOf, groupsHeld, listingHeld, textHeld, printedHeld}
 
--- the record's text, by whether the listing stands
-pub held-listing : (a : Analysed) → isBounded (a .judged) ≡ true → textHeld a ≡ listingHeld a
-unfolding textHeld
-held-listing a e = rw e
+-- the record's text and what is printed of it, by what the analysis says
+pub held-listing : (a : Analysed) → a .judged ≡ Bounded → (textHeld a ≡ listingHeld a) × (printedHeld a ≡ Answer (length (textHeld a)))
+unfolding textHeld printedHeld
+held-listing a e = (rw e, rw e)
 
-pub held-refusal : (a : Analysed) → isBounded (a .judged) ≡ false → textHeld a ≡ refusalLine (judgedNumber (a .judged)) (judgedDetail (a .judged))
-unfolding textHeld
-held-refusal a e = rw e
+pub held-refusal : (a : Analysed) (w : Why) (d : ℕ) → a .judged ≡ Refused w d
+    → (textHeld a ≡ refusalLine (refusal w) d) × (printedHeld a ≡ Refusal (length (textHeld a)))
+unfolding textHeld printedHeld
+held-refusal a w d e = (rw e, rw e)
 
 -- the groups as flows, and the waits filled up with m zeros, say the groups' lines
 lines-are : (row : Tandem) (gs : List Path) (none : List Flow) (waits : List ℕ) (m : ℕ)
@@ -47,74 +49,45 @@ groups-are : (xs : List ℕ) → groupsHeld (filled (rowOf xs .groups) (listingO
 unfolding rowOf listingOf reads
 groups-are xs = lines-are (tandemOf xs) (groups (tandemOf xs)) _ (listingOf xs .waits) (32 - length (listingOf xs .waits))
 
-text-where : (j : Judged) (a : Analysed) (l : Listing) → a .judged ≡ Bounded → listingHeld a ≡ textOf (verdictWhere Bounded l)
-    → textHeld (heldWhere j a) ≡ textOf (verdictWhere j l)
-unfolding textHeld textOf
-text-where (Refused w d) a l b e = refl
-text-where Crossing a l b e = refl
-text-where (Crowded j) a l b e = refl
-text-where (Points n) a l b e = refl
-text-where TooLarge a l b e = refl
-text-where Bounded a l b e = rw b e
+-- THE LAW: what the analysis holds is said, and told from a refusal, as its verdict is
+pub text-is : (bytes : List ℕ) → (textHeld (analysedOf bytes) ≡ reportOf (verdictOf bytes)) × (printedHeld (analysedOf bytes) ≡ printedOf (verdictOf bytes))
+unfolding textHeld reportOf printedHeld printedOf
+text-is bytes = by (case-of bytes)
+  where
+    by : Case bytes → (textHeld (analysedOf bytes) ≡ reportOf (verdictOf bytes)) × (printedHeld (analysedOf bytes) ≡ printedOf (verdictOf bytes))
+    by (refusing w d c v h) = (rw (v, h), rw (v, h))
+    by (listing xs s ok p v h) = (rw (v, h, groups-are xs), rw (v, h, groups-are xs))
 
-text-on : (f : Found) → textHeld (sheetHeld f) ≡ textOf (onSheet f)
-unfolding textHeld textOf judgedHeld
-text-on (fail w d) = refl
-text-on (these xs) =
-    text-where (judgedRow (checkOf xs) xs) (filled (rowOf xs .groups) (listingOf xs)) (listingOf xs) refl
-    (ap (λ (l : List ℕ). figureLines (listingOf xs .bound) (listingOf xs .start) (listingOf xs .grid) l) (groups-are xs))
-
--- THE LAW: what the analysis holds is said as its verdict is
-pub text-is : (bytes : List ℕ) → textHeld (analysedOf bytes) ≡ textOf (verdictOf bytes)
-unfolding analysedOf verdictOf
-text-is bytes = text-on (sheetOf bytes)
-
--- At most 31 groups.
-
-passed-where : (c : Check) (xs : List ℕ) → judgedRow c xs ≡ Bounded → c ≡ check.Passed
-passed-where check.Passed xs e = refl
-passed-where check.Crossing xs e = let q : _≡_ {A = ℕ} 0 1 = cc in absurd (omega arith)
-passed-where (check.Crowded j) xs e = let q : _≡_ {A = ℕ} 0 1 = cc in absurd (omega arith)
-passed-where (check.Points n) xs e = let q : _≡_ {A = ℕ} 0 1 = cc in absurd (omega arith)
-
-few-where : (bytes xs : List ℕ) → sheetOf bytes ≡ these xs → judgedRow (checkOf xs) xs ≡ Bounded → length (listingOf xs .paths) ≤ 31
-unfolding listingOf
-few-where bytes xs s e =
-    let p = passed-row xs (read-valid bytes xs s) (passed-where (checkOf xs) xs e) in
-    few-groups (tandemOf xs) (p .accepts) (p .limited)
-
-few-by : (j : Judged) (flows : List Flow) (l : Listing) → (j ≡ Bounded → length (l .paths) ≤ 31) → heldWhere j (filled flows l) .count ≤ 31
-few-by (Refused w d) flows l h = omega arith
-few-by Crossing flows l h = omega arith
-few-by (Crowded j) flows l h = omega arith
-few-by (Points n) flows l h = omega arith
-few-by TooLarge flows l h = omega arith
-few-by Bounded flows l h = h refl
-
-few-on : (bytes : List ℕ) (f : Found) → sheetOf bytes ≡ f → sheetHeld f .count ≤ 31
-unfolding judgedHeld
-few-on bytes (fail w d) s = omega arith
-few-on bytes (these xs) s = few-by (judgedRow (checkOf xs) xs) (rowOf xs .groups) (listingOf xs) (few-where bytes xs s)
-
+-- at most 31 groups
 pub held-few : (bytes : List ℕ) → analysedOf bytes .count ≤ 31
-unfolding analysedOf
-held-few bytes = few-on bytes (sheetOf bytes) refl
+held-few bytes = by (case-of bytes)
+  where
+    by : Case bytes → analysedOf bytes .count ≤ 31
+    by (refusing w d c v h) = rw h (omega arith)
+    by (listing xs s ok p v h) = rw h (listing-small xs ok p .few)
 
-short-by : (j : Judged) (l : Listing) → (j ≡ Bounded → length (l .paths) ≤ 31) → length (textOf (verdictWhere j l)) ≤ 2374
-unfolding textOf
-short-by (Refused w d) l h = omega (arith, refusal-short (judgedNumber (Refused w d)) d)
-short-by Crossing l h = omega (arith, refusal-short 6 0)
-short-by (Crowded j) l h = omega (arith, refusal-short 7 j)
-short-by (Points n) l h = omega (arith, refusal-short 8 n)
-short-by TooLarge l h = omega (arith, refusal-short 9 0)
-short-by Bounded l h = omega (arith, h refl, figures-short (l .bound) (l .start) (l .grid) (groupLines (l .paths) (l .waits)), groups-short (l .paths) (l .waits))
+-- a report has room on a page
+pub text-short : (bytes : List ℕ) → length (reportOf (verdictOf bytes)) ≤ pageMost
+unfolding reportOf
+text-short bytes = by (case-of bytes)
+  where
+    by : Case bytes → length (reportOf (verdictOf bytes)) ≤ pageMost
+    by (refusing w d c v h) = rw v (omega (arith, refusal-short (refusal w) d))
+    by (listing xs s ok p v h) =
+        let l = listingOf xs in
+        rw v (omega (
+          arith,
+          listing-small xs ok p .few,
+          figures-short (l .bound) (l .start) (l .grid) (groupLines (l .paths) (l .waits)),
+          groups-short (l .paths) (l .waits),
+        ))
 
-short-on : (bytes : List ℕ) (f : Found) → sheetOf bytes ≡ f → length (textOf (onSheet f)) ≤ 2374
-unfolding textOf
-short-on bytes (fail w d) s = omega (arith, refusal-short (judgedNumber (Refused w d)) d)
-short-on bytes (these xs) s = short-by (judgedRow (checkOf xs) xs) (listingOf xs) (few-where bytes xs s)
+-- as many bytes are printed as the report has
+pub printed-bytes : (v : Verdict) → bytesOf (printedOf v) ≡ length (reportOf v)
+unfolding printedOf
+printed-bytes (refused w d) = refl
+printed-bytes (bounded l) = refl
 
--- a report takes at most 2,374 bytes
-pub text-short : (bytes : List ℕ) → length (textOf (verdictOf bytes)) ≤ 2374
-unfolding verdictOf
-text-short bytes = short-on bytes (sheetOf bytes) refl
+-- so a page has room for what `report` gives to print
+pub report-fits : {bytes before after : List ℕ} {r : Printed} → Report bytes before r after → bytesOf r ≤ pageMost
+report-fits {bytes} h = omega (arith, ap bytesOf (h .gives), printed-bytes (verdictOf bytes), text-short bytes)

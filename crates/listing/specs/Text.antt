@@ -3,10 +3,14 @@
 -- Assumes nothing.
 use Prim.Native.Nat.{ℕ}
 use mathlib.Core.List.{List, [], _∷_, _++_}
-use Rattle.text.specs.Decimal.{decimal}
-use Rattle.row.specs.Tandem.{Path}
+use lib.ListN.{length}
+use Rattle.text.specs.declared.Printed.{Printed}
+use Rattle.text.specs.declared.Printed.the-variants.{Answer, Refusal}
+use Rattle.text.specs.Lines.{field, line, refusalLine}
+use Rattle.fields.specs.Refusal.{refusal}
+use Rattle.tandem.specs.Tandem.{Path}
 use Rattle.tree.specs.Plan.{headOf, tailOf}
-use Rattle.analysis.specs.Verdict.{Verdict, refused, bounded, judgedNumber, judgedDetail}
+use Rattle.analysis.specs.Verdict.{Verdict, refused, bounded}
 
 -- "bound "
 abbrev pub boundWord : List ℕ
@@ -32,25 +36,6 @@ blank = 32 ∷ []
 abbrev pub waitWord : List ℕ
 waitWord = 32 ∷ 119 ∷ 97 ∷ 105 ∷ 116 ∷ 32 ∷ []
 
--- "refused "
-abbrev pub refusedWord : List ℕ
-refusedWord = 114 ∷ 101 ∷ 102 ∷ 117 ∷ 115 ∷ 101 ∷ 100 ∷ 32 ∷ []
-
--- " at "
-abbrev pub atWord : List ℕ
-atWord = 32 ∷ 97 ∷ 116 ∷ 32 ∷ []
-
--- the line end
-abbrev pub lineEnd : List ℕ
-lineEnd = 10 ∷ []
-
--- a word and behind it a number; and the same as the end of a line
-unfoldable pub field : List ℕ → ℕ → List ℕ
-field word x = word ++ decimal x
-
-unfoldable pub line : List ℕ → ℕ → List ℕ
-line word x = field word x ++ lineEnd
-
 -- `group FIRST LAST wait W`
 unfoldable pub groupLine : ℕ → ℕ → ℕ → List ℕ
 groupLine first last wait = field groupWord first ++ (field blank last ++ line waitWord wait)
@@ -64,11 +49,16 @@ groupLines (g ∷ gs) waits = groupLine (g .first) (g .last) (headOf waits) ++ g
 unfoldable pub figureLines : ℕ → ℕ → ℕ → List ℕ → List ℕ
 figureLines bound start grid others = line boundWord bound ++ (line startWord start ++ (line gridWord grid ++ others))
 
--- `refused R at D`
-unfoldable pub refusalLine : ℕ → ℕ → List ℕ
-refusalLine number detail = field refusedWord number ++ line atWord detail
-
 -- the report of a verdict
-unfoldable pub textOf : Verdict → List ℕ
-textOf (refused j) = refusalLine (judgedNumber j) (judgedDetail j)
-textOf (bounded l) = figureLines (l .bound) (l .start) (l .grid) (groupLines (l .paths) (l .waits))
+unfoldable pub reportOf : Verdict → List ℕ
+reportOf (refused w d) = refusalLine (refusal w) d
+reportOf (bounded l) = figureLines (l .bound) (l .start) (l .grid) (groupLines (l .paths) (l .waits))
+
+-- what there is to print of it: the listing is an answer
+unfoldable pub printedOf : Verdict → Printed
+printedOf (refused w d) = Refusal (length (reportOf (refused w d)))
+printedOf (bounded l) = Answer (length (reportOf (bounded l)))
+
+-- every report has room on a page of so many bytes
+abbrev pub pageMost : ℕ
+pageMost = 2560

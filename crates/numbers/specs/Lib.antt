@@ -1,4 +1,6 @@
 pub mod Seven
-pub mod SevenLaws
+pub mod Inside
+pub mod Contract
 pub mod Unique
+pub mod SevenLaws
 pub mod Figures

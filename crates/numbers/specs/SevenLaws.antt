@@ -5,24 +5,17 @@ use Prim.Native.Nat.{ℕ, zero, suc, _+_, _-_, _*_, _/_, _%_, _^_, _≤_, _<_}
 use mathlib.Core.Path.{_≡_, refl, sym, ap, _∙_}
 use mathlib.Core.Logic.{_⊎_, inl, inr, ⊎-elim}
 use mathlib.Core.List.{List, [], _∷_, _++_}
-use mathlib.Core.Bool.{Bool, true, false, cond, _&&_, and-false}
-use native.Mathlib.Nat.{pow-suc, one-le-pow, div-lt-iff-lt-mul, le-div-iff-mul-le, add-sub-cancel-left}
+use mathlib.Core.Bool.{cond, and-false}
+use native.Mathlib.Nat.{pow-suc, one-le-pow, div-lt-iff-lt-mul, le-div-iff-mul-le}
 use native.Mathlib.Numerals.{add-one}
 use native.Mathlib.Omega.{arith}
 use lib.ListN.{length, length-drop, getD, take, drop}
-use lib.Seq.{drop-append-seam, getD-drop, length-take-le, take-take, take-nil, drop-nil}
-use lib.Dec.{ltb, eqb}
-use borrow.Author.Tests.{lt-ltb, le-ltb, ne-eqb, eq-eqb, ltb-true, ltb-false}
-use Rattle.numbers.specs.declared.Got.{Got}
-use Rattle.numbers.specs.declared.Got.the-variants.{Number, Ends, Padded, Large}
+use lib.Seq.{drop-append-seam, getD-drop, length-take-le, take-take}
+use lib.Dec.{ltb}
+use borrow.Author.Tests.{lt-ltb, le-ltb, ne-eqb, eq-eqb}
+use Rattle.ground.specs.OrderLaws.{lt-or-ge}
+use Rattle.numbers.specs.declared.Got.the-variants.{Number}
 use Rattle.numbers.specs.Seven.{Run, ends, long, run, push, scan, judge, numberAt, groups, encode}
-
-pub lt-or-ge : (a b : ℕ) → (a < b) ⊎ (b ≤ a)
-lt-or-ge a b = by (ltb a b) refl
-  where
-    by : (t : Bool) → ltb a b ≡ t → (a < b) ⊎ (b ≤ a)
-    by true e = inl (ltb-true a b e)
-    by false e = inr (ltb-false a b e)
 
 -- The groups of a number, one by one.
 
@@ -87,7 +80,8 @@ one-group x h = groups-last 4 x h
 groups-enough : (n x : ℕ) → x < 128 ^ suc n → groups (suc n) x ≡ groups (suc (suc n)) x
 groups-enough zero x h = let l : x < 128 = omega arith in rw (lt-ltb x 128 l)
 groups-enough (suc n) x h =
-    ⊎-elim (λ l. rw (lt-ltb x 128 l)) (λ g. rw (groups-more (suc n) x g, groups-more (suc (suc n)) x g, groups-enough n (x / 128) (below-power (suc n) x h))) (lt-or-ge x 128)
+    ⊎-elim (λ l. rw (lt-ltb x 128 l))
+    (λ g. rw (groups-more (suc n) x g, groups-more (suc (suc n)) x g, groups-enough n (x / 128) (below-power (suc n) x h))) (lt-or-ge x 128)
 
 pub lowest-first : (x : ℕ) → 128 ≤ x → x < 4294967296 → encode x ≡ (x % 128 + 128) ∷ encode (x / 128)
 unfolding encode

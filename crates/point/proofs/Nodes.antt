@@ -13,8 +13,8 @@ use lib.Seq.{drop-cons, getD-set-same, getD-set-other}
 use Rattle.curves.specs.declared.Curve.{Curve}
 use Rattle.curves.specs.Curve.{Shape, delay}
 use Rattle.curves.specs.Held.{Holds}
-use Rattle.row.specs.declared.Server.{Server}
-use Rattle.row.specs.declared.Flow.{Flow}
+use Rattle.tandem.specs.declared.Server.{Server}
+use Rattle.tandem.specs.declared.Flow.{Flow}
 use Rattle.tree.specs.Plan.{Node, Top, alone, over, topOf, nodeOf, plan}
 use Rattle.point.specs.declared.Point.{Point}
 use Rattle.tree.specs.Planned.{waitsOf, noFlow, answerOf}

@@ -13,8 +13,8 @@ use lib.ListN.{length, length-append}
 use Rattle.curves.specs.declared.Curve.{Curve}
 use Rattle.curves.specs.Curve.{Shape, neutral, joined}
 use Rattle.curves.specs.Held.{Holds}
-use Rattle.row.specs.declared.Server.{Server}
-use Rattle.row.specs.declared.Flow.{Flow}
+use Rattle.tandem.specs.declared.Server.{Server}
+use Rattle.tandem.specs.declared.Flow.{Flow}
 use Rattle.tree.specs.Plan.{Node, Top, alone, over, topOf, serverCurve, pieceOn, along, nodeCurve}
 use Rattle.tree.specs.NodeLaws.{along-alone, along-over, along-end}
 

@@ -1,9 +1,9 @@
 // One point of a row's grid over the nesting tree, with whole curves: an array of curve records, child before parent.
-ghost use mathlib.Core.Path.{_≡_};
 ghost use mathlib.Core.List.{_∷_};
 ghost use Rattle.tree.specs.Plan.{plan};
 ghost use Rattle.tree.specs.Fine.{AllFine};
-ghost use Rattle.point.specs.Point.{serversOf, flowsOf, answerAt, extrasOf, pointOf, Shaped};
+ghost use Rattle.point.specs.Point.{serversOf, flowsOf, extrasOf, Shaped};
+ghost use Rattle.point.specs.Contract.{Evaluate};
 use curves::Curve;
 use row::Row;
 
@@ -17,7 +17,7 @@ pub struct Point {
 // that begins at server j, 0 where there is none, and lefts holds what each leaves.
 pub fn evaluate(row: Row, extra: [u64; 32]) -> Point
     requires { ⌜ Shaped row × AllFine (plan (serversOf row) (flowsOf row) (0 ∷ extrasOf row extra)) (flowsOf row) ⌝ }
-    ensures { λ r. ⌜ r ≡ pointOf (answerAt row (extrasOf row extra)) ⌝ }
+    ensures { λ r. ⌜ Evaluate row extra r ⌝ }
 {
     let none = Curve::none();
     let mut lefts = [none; 32];

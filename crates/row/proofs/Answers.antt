@@ -1,73 +1,83 @@
 -- The answer of each way through the checks, in their order: 6, then 7, then 8, else the row.
 -- Assumes nothing.
 use mathlib.Core.Path.{_≡_, refl, sym, ap, _∙_}
-use mathlib.Core.Bool.{Bool, true, false, cond, _&&_}
-use mathlib.Core.Logic.{_⊎_, inl, inr}
+use mathlib.Core.Bool.{Bool, true, false, _&&_}
 use mathlib.Core.List.{List}
 use Prim.Native.Nat.{ℕ, _+_, _-_, _^_, _≤_, _<_}
 use native.Mathlib.Omega.{arith}
 use lib.Dec.{ltb, eqb}
 use lib.ListN.{length, length-map}
-use borrow.Author.Tests.{lt-ltb, eqb-false}
-use Rattle.sheet.specs.Valid.{Valid, Within, serverCount, mode, grid}
+use borrow.Author.Tests.{lt-ltb}
+use Rattle.sheet.specs.Valid.{grid}
+use Rattle.tandem.specs.Tandem.{Tandem, size}
+use Rattle.tandem.specs.Crowded.{lowestCrowded}
+use Rattle.tandem.specs.CrowdedLaws.{sound-uncrowded}
+use Rattle.tandem.specs.Sound.{Sound, Limits}
+use Rattle.tandem.specs.OfSheet.{listed}
+use Rattle.tandem.specs.OfSheetLaws.{length-listed}
+use Rattle.tandem.specs.Lent.{serverIn, tandemIn, alone}
 use Rattle.row.specs.declared.Row.{Row}
 use Rattle.row.specs.declared.Check.the-variants.{Passed, Crossing, Crowded, Points}
-use Rattle.row.specs.Tandem.{size}
 use Rattle.row.specs.Groups.{groups, grouped, reads}
-use Rattle.row.specs.Checks.{notNested, lowestCrowded, tooMany}
-use Rattle.row.specs.OfSheet.{tandemOf, gridOf, rowOf, checkOf, formedOf}
-use Rattle.row.specs.Parts.{refusedBy}
-use Rattle.row.specs.OfSheetLaws.{accepted, limits}
+use Rattle.row.specs.Checks.{overlaps, notNested, tooMany}
+use Rattle.row.specs.RowFor.{padded, rowFor, formedFor}
+use Rattle.row.specs.Parts.{Groupable, groupedFor, refusedBy}
+use Rattle.row.specs.CheckLaws.{accepted-row}
 use Rattle.row.specs.CountLaws.{few-groups}
 
-pub formed-crossing : (xs : List ℕ) → notNested (tandemOf xs) ≡ true → formedOf xs ≡ refusedBy Crossing
-unfolding formedOf checkOf
-formed-crossing xs n = rw n
+-- check 6 reads no server
+pub nested-alone : (servers : List ℕ) (size : ℕ) (flows : List ℕ) (n : ℕ) → notNested (tandemIn servers size flows n) ≡ notNested (alone flows n)
+unfolding notNested overlaps
+nested-alone servers size flows n = refl
 
-pub formed-crowded : (xs : List ℕ) → notNested (tandemOf xs) ≡ false → (j : ℕ) → j ≡ lowestCrowded (tandemOf xs) 1 (size (tandemOf xs)) → 0 < j
-    → formedOf xs ≡ refusedBy (Crowded j)
-unfolding formedOf checkOf
-formed-crowded xs n j e h = rw (n, ← e, lt-ltb 0 j h)
+-- the row by its parts
+pub row-parts : (servers : List ℕ) (n : ℕ) (flows : List ℕ) (m mode g : ℕ)
+    → rowFor (tandemIn servers n flows m) mode g
+    ≡ record {
+      size = n;
+      servers = padded 16 (record { rate = 0; latency = 0 }) (listed n (serverIn servers));
+      count = groupedFor (tandemIn servers n flows m) .count;
+      groups = groupedFor (tandemIn servers n flows m) .groups;
+      mode = mode;
+      grid = g;
+    }
+unfolding groupedFor
+row-parts servers n flows m mode g = rw (length-listed n (serverIn servers))
 
--- what is known behind checks 6 and 7
-pub record Passing (xs : List ℕ) : Type 0 where
-  pub nested : notNested (tandemOf xs) ≡ false
-  pub uncrowded : lowestCrowded (tandemOf xs) 1 (size (tandemOf xs)) ≡ 0
+module _ (row : Tandem) (mode g : ℕ) where
+  pub formed-crossing : notNested row ≡ true → formedFor row mode g ≡ refusedBy Crossing
+  formed-crossing n = rw n
 
-module _ {xs : List ℕ} (p : Passing xs) where
+  pub formed-crowded : notNested row ≡ false → (j : ℕ) → j ≡ lowestCrowded row 1 (size row) → 0 < j → formedFor row mode g ≡ refusedBy (Crowded j)
+  formed-crowded n j e h = rw (n, ← e, lt-ltb 0 j h)
+
   -- the array has room
-  pub few-listed : Valid xs → length (groups (tandemOf xs)) ≤ 31
-  few-listed v = few-groups (tandemOf xs) (accepted xs v (p .nested) (p .uncrowded)) (limits xs v)
+  pub few-listed : Sound row → Limits row → notNested row ≡ false → length (groups row) ≤ 31
+  few-listed s l n = few-groups row (accepted-row row s n) l
 
-  module _ {row : Row} (is : row ≡ rowOf xs) where
-    pub listed-count : row .count ≡ length (groups (tandemOf xs)) + 1
-    unfolding rowOf reads
-    listed-count = ap (λ (r : Row). r .count) is ∙ omega (arith, length-map (groups (tandemOf xs)) (grouped (tandemOf xs)))
+  module _ {held : Row} (is : held ≡ rowFor row mode g) where
+    pub listed-count : held .count ≡ length (groups row) + 1
+    unfolding reads
+    listed-count = ap (λ (r : Row). r .count) is ∙ omega (arith, length-map (groups row) (grouped row))
 
-    pub grid-range : Valid xs → (1 ≤ row .grid) × (row .grid ≤ 9)
-    unfolding rowOf gridOf
-    grid-range v = rw is (go (eqb (grid xs) 0) refl (v .grids))
-      where
-        go : (b : Bool) → eqb (grid xs) 0 ≡ b → (grid xs ≡ 0) ⊎ Within 2 9 (grid xs) → (1 ≤ cond b 3 (grid xs)) × (cond b 3 (grid xs) ≤ 9)
-        go true t w = (omega arith, omega arith)
-        go false t (inl w) = absurd (eqb-false (grid xs) 0 t w)
-        go false t (inr w) = (omega (arith, w .least), w .most)
+    group-count : held .count - 1 ≡ length (groups row)
+    group-count = omega (arith, listed-count)
 
-    module _ {t : Bool} (points : t ≡ (eqb (row .mode) 0 && ltb 65536 (row .grid ^ (row .count - 1)))) where
-      group-count-is : row .count - 1 ≡ length (groups (tandemOf xs))
-      group-count-is = omega (arith, listed-count)
+    module _ (ok : Sound row) (n : notNested row ≡ false) {t : Bool} (points : t ≡ (eqb mode 0 && ltb 65536 (g ^ (held .count - 1)))) where
+      too-many-is : tooMany row mode g ≡ t
+      unfolding tooMany
+      too-many-is = sym (points ∙ ap (λ (k : ℕ). eqb mode 0 && ltb 65536 (g ^ k)) group-count)
 
-      too-many-is : tooMany (tandemOf xs) (mode xs) (gridOf (serverCount xs) (grid xs)) ≡ t
-      unfolding tooMany rowOf
-      too-many-is =
-          sym
-          (points ∙ ap (λ (n : ℕ). eqb (row .mode) 0 && ltb 65536 (row .grid ^ n)) group-count-is
-          ∙ ap (λ (r : Row). eqb (r .mode) 0 && ltb 65536 (r .grid ^ length (groups (tandemOf xs)))) is)
+      pub formed-points : t ≡ true → formedFor row mode g ≡ refusedBy (Points (held .count - 1))
+      formed-points h = rw (n, sound-uncrowded row ok, too-many-is, h, group-count)
 
-      pub formed-points : t ≡ true → formedOf xs ≡ refusedBy (Points (row .count - 1))
-      unfolding formedOf checkOf
-      formed-points h = rw (p .nested, p .uncrowded, too-many-is, h, group-count-is)
+      pub formed-passed : t ≡ false → formedFor row mode g ≡ record { check = Passed; row = held }
+      formed-passed h = rw (n, sound-uncrowded row ok, too-many-is, h, is)
 
-      pub formed-passed : t ≡ false → formedOf xs ≡ record { check = Passed; row = row }
-      unfolding formedOf checkOf
-      formed-passed h = rw (p .nested, p .uncrowded, too-many-is, h, is)
+-- lists whose groups may be listed have at most 31 of them
+module _ {servers : List ℕ} {n : ℕ} {flows : List ℕ} {m : ℕ} {reaches : List ℕ} (ok : Groupable servers n flows m reaches) where
+  pub lists-nested : notNested (tandemIn servers n flows m) ≡ false
+  lists-nested = nested-alone servers n flows m ∙ ok .nested
+
+  pub lists-few : length (groups (tandemIn servers n flows m)) ≤ 31
+  lists-few = few-listed (tandemIn servers n flows m) 0 0 (ok .lent .sound) (ok .lent .limits) lists-nested

@@ -7,8 +7,9 @@ use native.Mathlib.Omega.{arith}
 use lib.ListN.{length, set, replicate, length-append}
 use lib.Seq.{set-append-seam}
 use native.Mathlib.Numerals.{add-one}
-use Rattle.row.specs.OfSheet.{listed, padded}
-use Rattle.row.specs.OfSheetLaws.{length-listed}
+use Rattle.tandem.specs.OfSheet.{listed}
+use Rattle.row.specs.RowFor.{padded}
+use Rattle.tandem.specs.OfSheetLaws.{length-listed}
 
 module _ {B : Type 0} (n : ℕ) (z : B) (l : List B) where
   pub padded-more : (x : B) → length l < n → set (padded n z l) (length l) x ≡ padded n z (l ++ (x ∷ []))

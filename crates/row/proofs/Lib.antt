@@ -1,7 +1,6 @@
 pub mod Filling
 pub mod Checking
+pub mod Reaching
 pub mod Summing
-pub mod Loading
-pub mod Placing
 pub mod Grouping
 pub mod Answers

@@ -3,7 +3,7 @@
 use Prim.Native.Nat.{ℕ, _≤_, _<_}
 use mathlib.Core.Path.{_≡_}
 use lib.ListN.{length}
-use Rattle.row.specs.Tandem.{Tandem, Path, size, flow, on, bursts, rates}
+use Rattle.tandem.specs.Tandem.{Tandem, Path, size, flow, on, bursts, rates}
 use Rattle.row.specs.Groups.{used}
 
 pub record Alike (row other : Tandem) : Type 0 where

@@ -9,16 +9,17 @@ use native.Mathlib.Omega.{arith}
 use lib.Dec.{leb, ltb, eqb}
 use lib.ListN.{length, getD}
 use borrow.Author.Tests.{lt-ltb, ltb-true, le-leb, leb-true, eq-eqb, eqb-true}
-use Rattle.row.specs.declared.Server.{Server}
-use Rattle.row.specs.declared.Flow.{Flow}
-use Rattle.row.specs.Sums.{weigh, total, any}
-use Rattle.row.specs.Tandem.{Tandem, Path, size, server, flow, crosses, on, rates}
+use Rattle.tandem.specs.declared.Server.{Server}
+use Rattle.tandem.specs.declared.Flow.{Flow}
+use Rattle.tandem.specs.Sums.{weigh, total, any}
+use Rattle.tandem.specs.Tandem.{Tandem, Path, size, server, flow, crosses, on, rates}
 use Rattle.row.specs.Groups.{used, path, from, from-on, groups, grouped, reads}
-use Rattle.row.specs.Checks.{overlaps, notNested, crowded, lowestCrowded, tooMany}
+use Rattle.tandem.specs.Crowded.{crowded, lowestCrowded}
+use Rattle.row.specs.Checks.{overlaps, notNested, tooMany}
 use Rattle.row.specs.Alike.{Alike, Inside}
-use Rattle.row.specs.TestLaws.{not-passed, both-true, true-both, same-test}
-use Rattle.row.specs.SumLaws.{total-add, total-zero, total-same, total-pick, total-by-key, any-at, any-found}
-use Rattle.row.specs.TandemLaws.{on-is, is-on, crosses-is, is-crosses}
+use Rattle.tandem.specs.TestLaws.{not-passed, both-true, true-both, same-test}
+use Rattle.tandem.specs.SumLaws.{total-add, total-zero, total-same, total-pick, total-by-key, any-at, any-found}
+use Rattle.tandem.specs.TandemLaws.{on-is, is-on, crosses-is, is-crosses}
 
 abbrev mk : List Server → List Flow → Tandem
 mk S F = record { servers = S; flows = F }
@@ -99,7 +100,8 @@ back row other a = record {
 pub nested-same : (row other : Tandem) → Alike row other → notNested row ≡ notNested other
 nested-same row other a = same-test (notNested row) (notNested other) (crossed row other a) (crossed other row (back row other a))
 
-module _ (row : Tandem) (W : ℕ) (small : (f : ℕ) → f < length (row .flows) → (flow row f .first < W) × (flow row f .last < W)) (some : 0 < length (row .flows)) (j : ℕ) where
+module _ (row : Tandem) (W : ℕ) (small : (f : ℕ) → f < length (row .flows) → (flow row f .first < W) × (flow row f .last < W))
+    (some : 0 < length (row .flows)) (j : ℕ) where
   -- a cross flow at the server
   other : ℕ → Bool
   other f = ltb 0 f && crosses row f j
@@ -109,9 +111,12 @@ module _ (row : Tandem) (W : ℕ) (small : (f : ℕ) → f < length (row .flows)
   unfolding other rates
   cell i l = go (leb i j && leb j l) refl
     where
-      go : (b : Bool) → (leb i j && leb j l) ≡ b → total (length (row .flows)) (λ f. weigh ((other f && eqb i (flow row f .first)) && eqb l (flow row f .last)) (flow row f .rate))
+      go : (b : Bool) → (leb i j && leb j l) ≡ b
+          → total (length (row .flows)) (λ f. weigh ((other f && eqb i (flow row f .first)) && eqb l (flow row f .last)) (flow row f .rate))
           ≡ weigh (leb i j && leb j l) (total (length (row .flows)) (λ f. weigh (on row (path i l) f) (flow row f .rate)))
-      go true e = rw e (total-same (length (row .flows)) _ _ (λ f h. ap (λ (b : Bool). weigh b (flow row f .rate)) (same-test ((other f && eqb i (flow row f .first)) && eqb l (flow row f .last)) (on row (path i l) f) (there f) (here f h))))
+      go true e = rw e (total-same (length (row .flows)) _ _
+          (λ f h. ap (λ (b : Bool). weigh b (flow row f .rate))
+          (same-test ((other f && eqb i (flow row f .first)) && eqb l (flow row f .last)) (on row (path i l) f) (there f) (here f h))))
         where
           x : (leb i j ≡ true) × (leb j l ≡ true)
           x = both-true (leb i j) (leb j l) e
@@ -121,14 +126,16 @@ module _ (row : Tandem) (W : ℕ) (small : (f : ℕ) → f < length (row .flows)
               let p = both-true (other f && eqb i (flow row f .first)) (eqb l (flow row f .last)) k in
               let q = both-true (other f) (eqb i (flow row f .first)) (p .0) in
               let o = both-true (ltb 0 f) (crosses row f j) (q .0) in
-              is-on row (path i l) f (ltb-true 0 f (o .0)) (crosses-is row f j (o .1) .0) (sym (eqb-true i (flow row f .first) (q .1))) (sym (eqb-true l (flow row f .last) (p .1)))
+              is-on row (path i l) f (ltb-true 0 f (o .0)) (crosses-is row f j (o .1) .0) (sym (eqb-true i (flow row f .first) (q .1)))
+              (sym (eqb-true l (flow row f .last) (p .1)))
 
           here : (f : ℕ) → f < length (row .flows) → on row (path i l) f ≡ true → ((other f && eqb i (flow row f .first)) && eqb l (flow row f .last)) ≡ true
           here f h k =
               let o = on-is row (path i l) f k in
               let c = is-crosses row f j h (omega (arith, o .2, leb-true i j (x .0))) (omega (arith, o .3, leb-true j l (x .1))) in
               rw (lt-ltb 0 f (o .0), c, eq-eqb i (flow row f .first) (sym (o .2)), eq-eqb l (flow row f .last) (sym (o .3)))
-      go false e = rw e (total-zero (length (row .flows)) _ (λ f h. ap (λ (b : Bool). weigh b (flow row f .rate)) (not-passed ((other f && eqb i (flow row f .first)) && eqb l (flow row f .last)) (never f))))
+      go false e = rw e (total-zero (length (row .flows)) _
+          (λ f h. ap (λ (b : Bool). weigh b (flow row f .rate)) (not-passed ((other f && eqb i (flow row f .first)) && eqb l (flow row f .last)) (never f))))
         where
           never : (f : ℕ) → ((other f && eqb i (flow row f .first)) && eqb l (flow row f .last)) ≡ true → ⊥
           never f k =
@@ -136,7 +143,8 @@ module _ (row : Tandem) (W : ℕ) (small : (f : ℕ) → f < length (row .flows)
               let q = both-true (other f) (eqb i (flow row f .first)) (p .0) in
               let o = both-true (ltb 0 f) (crosses row f j) (q .0) in
               let c = crosses-is row f j (o .1) in
-              true≢false (sym (true-both (leb i j) (leb j l) (le-leb i j (omega (arith, c .1, eqb-true i (flow row f .first) (q .1)))) (le-leb j l (omega (arith, c .2, eqb-true l (flow row f .last) (p .1))))) ∙ e)
+              true≢false (sym (true-both (leb i j) (leb j l) (le-leb i j (omega (arith, c .1, eqb-true i (flow row f .first) (q .1))))
+              (le-leb j l (omega (arith, c .2, eqb-true l (flow row f .last) (p .1))))) ∙ e)
 
   -- the rates at the server: the watched flow's, and path by path
   pub rates-by-path : rates row (λ f. crosses row f j)
@@ -145,22 +153,28 @@ module _ (row : Tandem) (W : ℕ) (small : (f : ℕ) → f < length (row .flows)
   rates-by-path =
       let n = length (row .flows) in
       let r : ℕ → ℕ = λ f. flow row f .rate in
-      let a : total n (λ f. weigh (crosses row f j) (r f)) ≡ total n (λ f. weigh (eqb f 0) (weigh (crosses row 0 j) (r 0)) + weigh (ltb 0 f && crosses row f j) (r f)) =
+      let a : total n (λ f. weigh (crosses row f j) (r f))
+      ≡ total n (λ f. weigh (eqb f 0) (weigh (crosses row 0 j) (r 0)) + weigh (ltb 0 f && crosses row f j) (r f)) =
       total-same n _ _ (λ f h. split f) in
       let b = total-add n (λ f. weigh (eqb f 0) (weigh (crosses row 0 j) (r 0))) (λ f. weigh (ltb 0 f && crosses row f j) (r f)) in
       let c = total-pick n 0 (weigh (crosses row 0 j) (r 0)) some in
-      let d : total n (λ f. weigh (ltb 0 f && crosses row f j) (r f)) ≡ total W (λ i. total n (λ f. weigh ((ltb 0 f && crosses row f j) && eqb i (flow row f .first)) (r f))) =
+      let d : total n (λ f. weigh (ltb 0 f && crosses row f j) (r f))
+      ≡ total W (λ i. total n (λ f. weigh ((ltb 0 f && crosses row f j) && eqb i (flow row f .first)) (r f))) =
       total-by-key n W (λ f. ltb 0 f && crosses row f j) (λ f. flow row f .first) r (λ f h k. small f h .0) in
-      let e : total W (λ i. total n (λ f. weigh ((ltb 0 f && crosses row f j) && eqb i (flow row f .first)) (r f))) ≡ total W (λ i. total W (λ l. weigh (leb i j && leb j l) (rates row (on row (path i l))))) =
-      total-same W _ _ (λ i h. total-by-key n W (λ f. (ltb 0 f && crosses row f j) && eqb i (flow row f .first)) (λ f. flow row f .last) r (λ f h k. small f h .1) ∙ total-same W _ _ (λ l k. cell i l)) in
+      let e : total W (λ i. total n (λ f. weigh ((ltb 0 f && crosses row f j) && eqb i (flow row f .first)) (r f)))
+      ≡ total W (λ i. total W (λ l. weigh (leb i j && leb j l) (rates row (on row (path i l))))) =
+      total-same W _ _ (λ i h. total-by-key n W (λ f. (ltb 0 f && crosses row f j) && eqb i (flow row f .first)) (λ f. flow row f .last) r
+      (λ f h k. small f h .1) ∙ total-same W _ _ (λ l k. cell i l)) in
       omega (arith, a, b, c, d, e)
     where
-      split : (f : ℕ) → weigh (crosses row f j) (flow row f .rate) ≡ weigh (eqb f 0) (weigh (crosses row 0 j) (flow row 0 .rate)) + weigh (ltb 0 f && crosses row f j) (flow row f .rate)
+      split : (f : ℕ) → weigh (crosses row f j) (flow row f .rate) ≡ weigh (eqb f 0) (weigh (crosses row 0 j) (flow row 0 .rate))
+          + weigh (ltb 0 f && crosses row f j) (flow row f .rate)
       split zero = omega arith
       split (suc f) = rw (lt-ltb 0 (suc f) (omega arith), not-passed (eqb (suc f) 0) (λ e. let z = eqb-true (suc f) 0 e in omega arith)) (omega arith)
 
 -- check 7 has the same outcome, server by server
-pub crowded-same : (row other : Tandem) → row .servers ≡ other .servers → Alike row other → Inside row → Inside other → (j : ℕ) → crowded row j ≡ crowded other j
+pub crowded-same : (row other : Tandem) → row .servers ≡ other .servers → Alike row other → Inside row → Inside other → (j : ℕ)
+    → crowded row j ≡ crowded other j
 unfolding crowded crosses
 crowded-same row other s a i k j =
     let z : server row j ≡ server other j = ap (λ (l : List Server). getD l (j - 1) (record { rate = 0; latency = 0 })) s in
@@ -169,9 +183,12 @@ crowded-same row other s a i k j =
     let x = rates-by-path row W (λ f h. (omega (arith, i f h .0), omega (arith, i f h .1))) (a .some) j in
     let y = rates-by-path other W (λ f h. (omega (arith, k f h .0), omega (arith, k f h .1))) (a .some-other) j in
     let c : crosses row 0 j ≡ crosses other 0 j = rw (lt-ltb 0 (length (row .flows)) (a .some), lt-ltb 0 (length (other .flows)) (a .some-other), a .watched) in
-    let t : total W (λ i. total W (λ l. weigh (leb i j && leb j l) (rates row (on row (path i l))))) ≡ total W (λ i. total W (λ l. weigh (leb i j && leb j l) (rates other (on other (path i l))))) =
+    let t : total W (λ i. total W (λ l. weigh (leb i j && leb j l) (rates row (on row (path i l)))))
+    ≡ total W (λ i. total W (λ l. weigh (leb i j && leb j l) (rates other (on other (path i l))))) =
     total-same W _ _ (λ i h. total-same W _ _ (λ l k. ap (λ (v : ℕ). weigh (leb i j && leb j l) v) (a .rate-sums (path i l)))) in
-    let d : rates row (λ f. crosses row f j) ≡ rates other (λ f. crosses other f j) = x ∙ sums (weigh (crosses row 0 j) (flow row 0 .rate)) _ _ _ (ap (λ (b : Bool). weigh b (flow row 0 .rate)) c ∙ ap (λ (f : Flow). weigh (crosses other 0 j) (f .rate)) (a .watched)) t ∙ sym y in
+    let d : rates row (λ f. crosses row f j) ≡ rates other (λ f. crosses other f j) =
+    x ∙ sums (weigh (crosses row 0 j) (flow row 0 .rate)) _ _ _
+    (ap (λ (b : Bool). weigh b (flow row 0 .rate)) c ∙ ap (λ (f : Flow). weigh (crosses other 0 j) (f .rate)) (a .watched)) t ∙ sym y in
     rw (z, d)
   where
     sums : (a b c d : ℕ) → a ≡ c → b ≡ d → a + b ≡ c + d

@@ -1,11 +1,11 @@
--- Refusals 6, 7 and 8 (document 01, "Refusals by number") as tests of a row. CheckLaws.antt proves each equivalent to its sentence.
+-- Refusals 6 and 8 (document 01, "Refusals by number") as tests of a row. CheckLaws.antt proves each equivalent to its sentence.
 -- Assumes nothing.
-use Prim.Native.Nat.{ℕ, zero, suc, _^_}
-use mathlib.Core.Bool.{Bool, cond, _&&_}
+use Prim.Native.Nat.{ℕ, _^_}
+use mathlib.Core.Bool.{Bool, _&&_}
 use lib.Dec.{leb, ltb, eqb}
 use lib.ListN.{length}
-use Rattle.row.specs.Sums.{any}
-use Rattle.row.specs.Tandem.{Tandem, server, flow, crosses, rates}
+use Rattle.tandem.specs.Sums.{any}
+use Rattle.tandem.specs.Tandem.{Tandem, flow}
 use Rattle.row.specs.Groups.{groups}
 
 -- the path of flow h begins inside that of flow f, behind its first server, and ends behind it: i < h ≤ j < k
@@ -15,15 +15,6 @@ overlaps row f h = ltb (flow row f .first) (flow row h .first) && (leb (flow row
 -- 6: "the row is not nested"; "A row is nested if no two paths (i, j), (h, k) have i < h ≤ j < k."
 unfoldable pub notNested : Tandem → Bool
 notNested row = any (length (row .flows)) (λ f. any (length (row .flows)) (overlaps row f))
-
--- 7: "the rates at a server, the watched flow's included, sum above R"
-unfoldable pub crowded : Tandem → ℕ → Bool
-crowded row j = ltb (server row j .rate) (rates row (λ f. crosses row f j))
-
--- "lowest such server", from server j on, of n servers; 0 if there is none
-unfoldable pub lowestCrowded : Tandem → ℕ → ℕ → ℕ
-lowestCrowded row j zero = 0
-lowestCrowded row j (suc n) = cond (crowded row j) j (lowestCrowded row (suc j) n)
 
 -- 8: "mode 0 and g to the power of the number of groups is above 65,536"
 unfoldable pub tooMany : Tandem → ℕ → ℕ → Bool

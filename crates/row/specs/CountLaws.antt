@@ -10,13 +10,15 @@ use native.Mathlib.Omega.{arith}
 use lib.Dec.{ltb, eqb}
 use lib.ListN.{length, length-append}
 use borrow.Author.Tests.{lt-ltb, ltb-true, eq-eqb}
-use Rattle.row.specs.Sums.{weigh, total, any}
-use Rattle.row.specs.Tandem.{Tandem, size, flow, on}
+use Rattle.tandem.specs.Sums.{weigh, total, any}
+use Rattle.tandem.specs.Tandem.{Tandem, size, flow, on}
 use Rattle.row.specs.Groups.{used, path, put, from, from-on, groups}
-use Rattle.row.specs.Accepted.{Accepted, Limits}
-use Rattle.row.specs.TestLaws.{not-passed, both-true, true-both, decide, le-or-lt}
-use Rattle.row.specs.SumLaws.{total-mono, total-add, total-zero, total-same, total-swap, total-pick, total-front, total-le, total-one, any-at, any-found}
-use Rattle.row.specs.TandemLaws.{on-is}
+use Rattle.tandem.specs.Sound.{Limits}
+use Rattle.row.specs.Accepted.{Accepted}
+use Rattle.ground.specs.OrderLaws.{le-or-lt}
+use Rattle.tandem.specs.TestLaws.{not-passed, both-true, true-both, decide}
+use Rattle.tandem.specs.SumLaws.{total-mono, total-add, total-zero, total-same, total-swap, total-pick, total-front, total-le, total-one, any-at, any-found}
+use Rattle.tandem.specs.TandemLaws.{on-is}
 
 -- one above l passes
 unfoldable above : ℕ → (ℕ → Bool) → ℕ → Bool
@@ -45,7 +47,8 @@ all-but-one : (n : ℕ) (U : ℕ → Bool) → total n (λ l. weigh (U l) 1) ≤
 unfolding above
 all-but-one n U = go (last-of n U)
   where
-    go : ((m : ℕ) → m < n → U m ≡ false) ⊎ ((x : ℕ) × (x < n) × (U x ≡ true) × ((m : ℕ) → x < m → m < n → U m ≡ false)) → total n (λ l. weigh (U l) 1) ≤ 1 + total n (λ l. weigh (U l && above n U l) 1)
+    go : ((m : ℕ) → m < n → U m ≡ false) ⊎ ((x : ℕ) × (x < n) × (U x ≡ true) × ((m : ℕ) → x < m → m < n → U m ≡ false))
+        → total n (λ l. weigh (U l) 1) ≤ 1 + total n (λ l. weigh (U l && above n U l) 1)
     go (inl h) = let z = total-zero n (λ l. weigh (U l) 1) (λ l k. rw (h l k)) in omega arith
     go (inr (x, hx, ux, top)) =
         let m = total-mono n (λ l. weigh (U l) 1) (λ l. weigh (eqb l x) 1 + weigh (U l && above n U l) 1) (λ l k. each l k (U l) refl (le-or-lt x l)) in
@@ -85,7 +88,8 @@ module _ (row : Tandem) (ok : Accepted row) where
       total-empty g = sym (total-zero 0 g (λ f l. absurd (omega arith)))
   from-on-count (suc n) i =
       let z : i + 0 ≡ i = omega arith in
-      let s = total-same n (λ k. length (from row (suc (suc i + k)) (size row))) (λ k. length (from row (suc (i + suc k)) (size row))) (λ k l. let e : suc i + k ≡ i + suc k = omega arith in ap (λ (x : ℕ). length (from row (suc x) (size row))) e) in
+      let s = total-same n (λ k. length (from row (suc (suc i + k)) (size row))) (λ k. length (from row (suc (i + suc k)) (size row)))
+      (λ k l. let e : suc i + k ≡ i + suc k = omega arith in ap (λ (x : ℕ). length (from row (suc x) (size row))) e) in
       omega (
         arith,
         length-append (from row (suc i) (size row)) (from-on row (suc (suc i)) n),
@@ -123,7 +127,8 @@ module _ (row : Tandem) (ok : Accepted row) where
       let q = is-used h (m .0) (c .1) in
       step (f .0) (g .0) (q .0) (m .0) (f .1) (q .1) (f .2) (f .3) (g .2) (g .3) (q .2) (q .3) (ltb-true l (m .0) (c .0)) (ok .sound .paths (g .0) (g .1) .2)
     where
-      step : (f g q m : ℕ) → f < length (row .flows) → q < length (row .flows) → flow row f .first ≡ suc i → flow row f .last ≡ suc l → flow row g .first ≡ suc h → flow row g .last ≡ suc l
+      step : (f g q m : ℕ) → f < length (row .flows) → q < length (row .flows) → flow row f .first ≡ suc i → flow row f .last ≡ suc l
+          → flow row g .first ≡ suc h → flow row g .last ≡ suc l
           → flow row q .first ≡ suc h → flow row q .last ≡ suc m → l < m
           → (flow row g .first ≤ flow row g .last) ⊎ ((flow row g .last ≡ 0) ⊎ (size row < flow row g .first)) → ⊥
       step f g q m hf hq a b c d e z lt (inl w) = let n = ok .nested f q hf hq (omega arith) (omega arith) in omega arith
@@ -171,7 +176,9 @@ module _ (row : Tandem) (ok : Accepted row) where
           let c = total-add (size row) (λ k. 1) (λ k. total (size row) (λ l. weigh (inner k l) 1)) in
           let d = total-le (size row) (λ k. 1) (λ k l. omega arith) in
           let s = total-swap (size row) (size row) (λ k l. weigh (inner k l) 1) in
-          let g : total (size row) (λ l. total (size row) (λ k. weigh (inner k l) 1)) ≡ total (suc M) (λ l. total (size row) (λ k. weigh (inner k l) 1)) = ap (λ (n : ℕ). total n (λ l. total (size row) (λ k. weigh (inner k l) 1))) e in
+          let g : total (size row) (λ l. total (size row) (λ k. weigh (inner k l) 1))
+          ≡ total (suc M) (λ l. total (size row) (λ k. weigh (inner k l) 1)) =
+          ap (λ (n : ℕ). total n (λ l. total (size row) (λ k. weigh (inner k l) 1))) e in
           let m = total-le M (λ l. total (size row) (λ k. weigh (inner k l) 1)) (λ l h. column l) in
           let z = total-zero (size row) (λ k. weigh (inner k M) 1) (λ k h. rw (not-last k M (sym e))) in
           omega (arith, a, b, c, d, s, g, m, z)

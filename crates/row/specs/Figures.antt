@@ -8,21 +8,25 @@ use Prim.Native.Nat.{ℕ, zero, suc, _+_}
 use native.Mathlib.Omega.{arith}
 use lib.Dec.{eqb}
 use lib.ListN.{length, replicate}
-use Rattle.sheet.specs.Rule.{ruleAt, serverNumbers, seenAfter}
-use Rattle.sheet.specs.Sheet.{listOf, stepOn}
+use Rattle.fields.specs.Rule.{ruleAt, fieldAt, seenAfter}
+use Rattle.fields.specs.Step.{stepOn}
+use Rattle.sheet.specs.Sheet.{listOf}
 use Rattle.sheet.specs.Valid.{Valid}
 use Rattle.sheet.specs.ValidLaws.{listed-valid}
 use Rattle.row.specs.declared.Row.{Row}
-use Rattle.row.specs.declared.Flow.{Flow}
+use Rattle.tandem.specs.declared.Flow.{Flow}
 use Rattle.row.specs.declared.Check.{Check}
 use Rattle.row.specs.declared.Check.the-variants.{Passed, Crossing, Crowded, Points}
-use Rattle.row.specs.Sums.{weigh, total, any}
-use Rattle.row.specs.Tandem.{crosses, on, bursts, rates}
+use Rattle.tandem.specs.Sums.{weigh, total, any}
+use Rattle.tandem.specs.Tandem.{crosses, on, bursts, rates}
 use Rattle.row.specs.Groups.{used, from, from-on, groups, grouped, reads}
-use Rattle.row.specs.Checks.{overlaps, notNested, crowded, lowestCrowded, tooMany}
+use Rattle.tandem.specs.Crowded.{crowded, lowestCrowded}
+use Rattle.row.specs.Checks.{overlaps, notNested, tooMany}
 use Rattle.row.specs.Alike.{Alike}
 use Rattle.row.specs.SameLaws.{row-alike}
-use Rattle.row.specs.OfSheet.{listed, tandemOf, gridOf, rowOf, checkOf, noRow, formedOf}
+use Rattle.tandem.specs.OfSheet.{listed, tandemOf}
+use Rattle.row.specs.RowFor.{noRow}
+use Rattle.row.specs.OfSheet.{gridOf, rowOf, checkOf, formedOf}
 
 -- P7: R 10, T 0; cross 10, 6; watched 12, 4; g 4
 abbrev pub sheet7 : List ℕ
@@ -43,32 +47,31 @@ row7 =
       size = 1;
       servers = record { rate = 10; latency = 0 } ∷ replicate 15 (record { rate = 0; latency = 0 });
       count = 2;
-      groups = record { first = 1; last = 1; burst = 12; rate = 4 } ∷ record { first = 1; last = 1; burst = 10; rate = 6 } ∷ replicate 30 (record { first = 0; last = 0; burst = 0; rate = 0 });
+      groups = record { first = 1; last = 1; burst = 12; rate = 4 } ∷ record { first = 1; last = 1; burst = 10; rate = 6 } ∷ replicate 30
+          (record { first = 0; last = 0; burst = 0; rate = 0 });
       mode = 0;
       grid = 4;
     }
 
 pub valid7 : Valid sheet7
-unfolding listOf stepOn ruleAt serverNumbers seenAfter
+unfolding listOf stepOn ruleAt fieldAt seenAfter
 valid7 = listed-valid sheet7 sheet7 refl
 
 pub valid9 : Valid sheet9
-unfolding listOf stepOn ruleAt serverNumbers seenAfter
+unfolding listOf stepOn ruleAt fieldAt seenAfter
 valid9 = listed-valid sheet9 sheet9 refl
 
-pub valid10 : Valid sheet10
-unfolding listOf stepOn ruleAt serverNumbers seenAfter
-valid10 = listed-valid sheet10 sheet10 refl
-
 pub passed7 : checkOf sheet7 ≡ Passed
-unfolding total any crosses on bursts rates used from from-on groups grouped reads overlaps notNested crowded lowestCrowded tooMany listed tandemOf gridOf rowOf checkOf
+unfolding total any crosses on bursts rates used from from-on groups grouped reads overlaps notNested crowded lowestCrowded tooMany listed tandemOf
+    gridOf rowOf checkOf
 passed7 = refl
 
 pub figures :
     (formedOf sheet7 ≡ record { check = Passed; row = row7 })
     × (formedOf sheet9 ≡ record { check = Crossing; row = noRow })
     × (formedOf sheet10 ≡ record { check = Crowded 1; row = noRow })
-unfolding total any crosses on bursts rates used from from-on groups grouped reads overlaps notNested crowded lowestCrowded tooMany listed tandemOf gridOf rowOf checkOf formedOf
+unfolding total any crosses on bursts rates used from from-on groups grouped reads overlaps notNested crowded lowestCrowded tooMany listed tandemOf
+    gridOf rowOf checkOf formedOf
 figures = (refl, refl, refl)
 
 -- Rows with latencies 0 and bursts 1: the servers' rates, and of each cross flow its path and rate.
@@ -165,8 +168,11 @@ mixed-reads = refl
 
 -- "g | 0 or 2..9; 0 means 3", and the servers in order
 pub mixed-row : (formedOf mixed .row .grid ≡ 3) × (formedOf mixed .row .mode ≡ 1) × (formedOf mixed .row .count ≡ 6)
-    × (formedOf mixed .row .servers ≡ record { rate = 50; latency = 1 } ∷ record { rate = 60; latency = 2 } ∷ record { rate = 70; latency = 3 } ∷ replicate 13 (record { rate = 0; latency = 0 }))
-unfolding total any crosses on bursts rates used from from-on groups grouped reads overlaps notNested crowded lowestCrowded tooMany listed tandemOf gridOf rowOf checkOf formedOf
+    × (formedOf mixed .row .servers
+    ≡ record { rate = 50; latency = 1 } ∷ record { rate = 60; latency = 2 } ∷ record { rate = 70; latency = 3 } ∷ replicate 13
+    (record { rate = 0; latency = 0 }))
+unfolding total any crosses on bursts rates used from from-on groups grouped reads overlaps notNested crowded lowestCrowded tooMany listed tandemOf
+    gridOf rowOf checkOf formedOf
 mixed-row = (refl, refl, refl, refl)
 
 -- P7 with its cross flow in two parts
@@ -174,7 +180,7 @@ abbrev pub split7 : List ℕ
 split7 = 1 ∷ 1 ∷ 10 ∷ 0 ∷ 2 ∷ 1 ∷ 1 ∷ 4 ∷ 5 ∷ 1 ∷ 1 ∷ 6 ∷ 1 ∷ 12 ∷ 4 ∷ 0 ∷ 4 ∷ []
 
 pub valid-split7 : Valid split7
-unfolding listOf stepOn ruleAt serverNumbers seenAfter
+unfolding listOf stepOn ruleAt fieldAt seenAfter
 valid-split7 = listed-valid split7 split7 refl
 
 once-or-twice : (b : Bool) → b ≡ (b || b)

@@ -5,9 +5,9 @@ use Prim.Native.Nat.{ℕ, zero, suc}
 use mathlib.Core.Bool.{Bool, true, false}
 use mathlib.Core.List.{List, [], _∷_, _++_, map}
 use lib.ListN.{length}
-use Rattle.row.specs.declared.Flow.{Flow}
-use Rattle.row.specs.Sums.{any}
-use Rattle.row.specs.Tandem.{Tandem, Path, size, flow, on, bursts, rates}
+use Rattle.tandem.specs.declared.Flow.{Flow}
+use Rattle.tandem.specs.Sums.{any}
+use Rattle.tandem.specs.Tandem.{Tandem, Path, size, flow, on, bursts, rates}
 
 -- some cross flow has the path g
 unfoldable pub used : Tandem → Path → Bool

@@ -1,67 +1,63 @@
--- The steps on the way from a sheet's numbers to its row, as the functions of src/lib.rt take them.
+-- The steps on the way from a row's lists to the row that is handed on, as the functions of src/lib.rt take them.
 -- Assumes nothing.
-use Prim.Native.Nat.{ℕ, zero, suc, _+_, _-_, _*_, _/_, _%_, _≤_, _<_}
+use Prim.Native.Nat.{ℕ, zero, suc, _+_, _-_, _*_, _≤_, _<_, max}
 use mathlib.Core.Path.{_≡_}
-use mathlib.Core.Bool.{Bool, true, false, _&&_}
-use mathlib.Core.List.{List, []}
-use lib.Dec.{leb, ltb}
+use mathlib.Core.Bool.{Bool, true, false}
+use lib.Dec.{ltb, eqb}
 use lib.ListN.{length, getD}
-use Rattle.row.specs.declared.Flow.{Flow}
+use mathlib.Core.List.{List}
+use Rattle.tandem.specs.declared.Flow.{Flow}
 use Rattle.row.specs.declared.Grouped.{Grouped}
 use Rattle.row.specs.declared.Check.{Check}
 use Rattle.row.specs.declared.Formed.{Formed}
-use Rattle.row.specs.Sums.{weigh, total}
-use Rattle.row.specs.Tandem.{Tandem, Path, flow, crosses, on}
-use Rattle.row.specs.Groups.{path, put, used, reads}
-use Rattle.row.specs.OfSheet.{tandemOf, padded, noRow}
+use Rattle.tandem.specs.Sums.{weigh, total, any}
+use Rattle.tandem.specs.Tandem.{Tandem, flow, on}
+use Rattle.tandem.specs.Lent.{alone, Lent}
+use Rattle.row.specs.Groups.{path, reads}
+use Rattle.row.specs.Checks.{notNested}
+use Rattle.row.specs.RowFor.{padded, noRow}
 
--- the path of the second flow begins inside that of the first, behind its first server, and ends behind it
-abbrev pub overlapping : Flow → Flow → Bool
-overlapping a b = ltb (a .first) (b .first) && (leb (b .first) (a .last) && ltb (a .last) (b .last))
+-- the furthest last server of those of the first n flows that begin at server i; 0 where none does
+unfoldable pub reachOf : Tandem → ℕ → ℕ → ℕ
+reachOf row i zero = 0
+reachOf row i (suc n) = max (reachOf row i n) (weigh (eqb (flow row n .first) i) (flow row n .last))
 
--- sums for 16 servers, each with room for one rate more in a u64
-pub record Roomy (loads : List ℕ) (rate : ℕ) : Type 0 where
-  pub long : length loads ≡ 16
-  pub room : (j : ℕ) → 1 ≤ j → j ≤ 16 → getD loads (j - 1) 0 + rate < 18446744073709551616
+-- these for each server
+pub record Reached (row : Tandem) (n : ℕ) (reaches : List ℕ) : Type 0 where
+  pub long : length reaches ≡ 18
+  pub reach-at : (i : ℕ) → i < 18 → getD reaches i 0 ≡ reachOf row i n
 
--- a rate added at each server from the first to the last
-pub record Added (first last rate : ℕ) (before after : List ℕ) : Type 0 where
-  pub long : length after ≡ 16
-  pub load-at : (j : ℕ) → 1 ≤ j → j ≤ 16 → getD after (j - 1) 0 ≡ getD before (j - 1) 0 + weigh (leb first j && leb j last) rate
+-- lists whose groups may be listed: a row that may be formed, the furthest last servers of its flows, and that it is nested
+pub record Groupable (servers : List ℕ) (size : ℕ) (flows : List ℕ) (n : ℕ) (reaches : List ℕ) : Type 0 where
+  pub lent : Lent servers size flows n
+  pub reached : Reached (alone flows n) n reaches
+  pub nested : notNested (alone flows n) ≡ false
 
--- the rates of the first n flows added up for each server
-pub record Loaded (row : Tandem) (n : ℕ) (loads : List ℕ) : Type 0 where
-  pub long : length loads ≡ 16
-  pub load-at : (j : ℕ) → 1 ≤ j → j ≤ 16 → getD loads (j - 1) 0 ≡ total n (λ f. weigh (crosses row f j) (flow row f .rate))
+-- check 6 by them, of one flow: one of the first n flows begins behind its first server, up to its last, and ends behind it
+unfoldable pub overreached : Tandem → ℕ → ℕ → Bool
+overreached row n f = any (flow row f .last - flow row f .first) (λ d. ltb (flow row f .last) (reachOf row (flow row f .first + 1 + d) n))
 
 -- a flow's rate, or its burst
 abbrev pub amount : Bool → Flow → ℕ
 amount true a = a .rate
 amount false a = a .burst
 
--- the 256 paths by number, in the groups' order: first server, then longer path first
-abbrev pub pathAt : ℕ → Path
-pathAt p = path (p / 16 + 1) (16 - p % 16)
-
-abbrev pub placeOf : Flow → ℕ
-placeOf a = (a .first - 1) * 16 + (16 - a .last)
+-- the 256 paths by number
+abbrev pub placeOf : ℕ → ℕ → ℕ
+placeOf i l = (i - 1) * 16 + (16 - l)
 
 -- the rates, or the bursts, of the first n flows added up for each path
 pub record Summed (row : Tandem) (rates : Bool) (n : ℕ) (sums : List ℕ) : Type 0 where
   pub long : length sums ≡ 256
-  pub sum-at : (p : ℕ) → p < 256 → getD sums p 0 ≡ total n (λ f. weigh (on row (pathAt p) f) (amount rates (flow row f)))
-
--- the groups among n paths from number p on
-unfoldable pub placed : Tandem → ℕ → ℕ → List Path
-placed row p zero = []
-placed row p (suc n) = put (used row (pathAt p)) (pathAt p) (placed row (suc p) n)
+  pub sum-at : (i l : ℕ) → 1 ≤ i → i ≤ 16 → 1 ≤ l → l ≤ 16
+      → getD sums (placeOf i l) 0 ≡ total n (λ f. weigh (on row (path i l) f) (amount rates (flow row f)))
 
 -- the watched flow and the groups in an array, and their number
-unfoldable pub groupedOf : List ℕ → Grouped
-groupedOf xs =
+unfoldable pub groupedFor : Tandem → Grouped
+groupedFor row =
     record {
-      count = length (reads (tandemOf xs));
-      groups = padded 32 (record { first = 0; last = 0; burst = 0; rate = 0 }) (reads (tandemOf xs));
+      count = length (reads row);
+      groups = padded 32 (record { first = 0; last = 0; burst = 0; rate = 0 }) (reads row);
     }
 
 -- an answer without a row

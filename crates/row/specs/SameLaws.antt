@@ -7,16 +7,18 @@ use Prim.Native.Nat.{ℕ}
 use native.Mathlib.Omega.{arith}
 use lib.ListN.{length}
 use Rattle.sheet.specs.Valid.{Valid, serverCount, mode, grid}
-use Rattle.row.specs.Tandem.{size}
-use Rattle.row.specs.OfSheet.{tandemOf, gridOf, checkOf, rowOf, formedOf}
+use Rattle.tandem.specs.Tandem.{size}
+use Rattle.tandem.specs.OfSheet.{tandemOf}
+use Rattle.row.specs.OfSheet.{gridOf, checkOf, rowOf, formedOf}
 use Rattle.row.specs.Alike.{Alike, Inside}
-use Rattle.row.specs.OfSheetLaws.{row-size, ranged}
+use Rattle.tandem.specs.OfSheetLaws.{row-size, ranged}
 use Rattle.row.specs.AlikeLaws.{groups-same, reads-same, nested-same, lowest-same, many-same}
 
 inside : (xs : List ℕ) → Valid xs → Inside (tandemOf xs)
 inside xs v f h = let r = ranged xs v f h in (omega (arith, row-size xs, r .path, r .ends), omega (arith, row-size xs, r .ends))
 
-module _ (xs ys : List ℕ) (v : Valid xs) (w : Valid ys) (s : tandemOf xs .servers ≡ tandemOf ys .servers) (m : mode xs ≡ mode ys) (g : grid xs ≡ grid ys) (a : Alike (tandemOf xs) (tandemOf ys)) where
+module _ (xs ys : List ℕ) (v : Valid xs) (w : Valid ys) (s : tandemOf xs .servers ≡ tandemOf ys .servers) (m : mode xs ≡ mode ys)
+    (g : grid xs ≡ grid ys) (a : Alike (tandemOf xs) (tandemOf ys)) where
   same-size : serverCount xs ≡ serverCount ys
   same-size = sym (row-size xs) ∙ ap length s ∙ row-size ys
 

@@ -1,30 +1,27 @@
-// The row of a sheet: its servers, its flows put together into groups, and the checks that it must pass.
+// The row that is searched: its flows, in lent lists whoever made them, put together into groups, and the checks that it must pass.
 ghost use mathlib.Core.Path.{_≡_};
-ghost use mathlib.Core.Bool.{_&&_};
-ghost use Prim.Native.Nat.{_+_, _-_, _*_, _^_, _≤_, _<_};
+ghost use mathlib.Core.Bool.{_&&_, false};
+ghost use Prim.Native.Nat.{_+_, _-_, _*_, _^_, _≤_, _<_, max};
 ghost use lib.Dec.{ltb, eqb};
-ghost use lib.ListN.{length};
-ghost use Rattle.sheet.specs.Valid.{Valid, serverCount, flowCount};
-ghost use Rattle.row.specs.Sums.{any};
-ghost use Rattle.row.specs.Tandem.{size, flow};
+ghost use lib.ListN.{length, getD};
+ghost use Rattle.sheet.specs.Valid.{Valid};
+ghost use Rattle.tandem.specs.OfSheet.{listed};
+ghost use Rattle.tandem.specs.Sums.{any};
+ghost use Rattle.tandem.specs.Lent.{serverIn, tandemIn, alone, Laid, Lent};
 ghost use Rattle.row.specs.Groups.{groups};
-ghost use Rattle.row.specs.Checks.{overlaps, notNested, lowestCrowded};
-ghost use Rattle.row.specs.OfSheet.{serverOf, flowOf, watchedOf, tandemOf, gridOf, padded, rowOf, formedOf};
-ghost use Rattle.row.specs.Parts.{overlapping, Roomy, Added, Loaded, amount, placeOf, Summed, groupedOf, refusedBy};
-
-// A server: its rate R in bytes a slot and its latency T in slots.
-pub struct Server {
-    pub rate: u64,
-    pub latency: u64,
-}
-
-// A flow: its first and last server, counted from 1, and its token bucket.
-pub struct Flow {
-    pub first: usize,
-    pub last: usize,
-    pub burst: u64,
-    pub rate: u64,
-}
+ghost use Rattle.row.specs.RowFor.{padded, rowFor, formedFor};
+ghost use Rattle.row.specs.OfSheet.{gridOf};
+ghost use Rattle.row.specs.Parts.{Reached, Groupable, amount, placeOf, Summed, groupedFor, refusedBy};
+ghost use Rattle.row.specs.Contract.{ReachesOf, IsNotNested, Form, RowOf};
+use tandem::Flow;
+use tandem::Server;
+use tandem::flow_count;
+use tandem::flow_in;
+use tandem::flow_total;
+use tandem::list_flows;
+use tandem::list_servers;
+use tandem::lowest_crowded;
+use tandem::server_count;
 
 // A row: its servers; the watched flow, and behind it the groups in order, each as one flow; the mode; and the grid with 0 replaced by its meaning.
 pub struct Row {
@@ -57,116 +54,37 @@ struct Grouped {
     groups: [Flow; 32],
 }
 
-// A number of the sheet as a place or a size.
-fn wide(x: u32) -> usize
-    ensures { λ r. ⌜ r ≡ x ⌝ }
+// The greater of two.
+fn further(a: usize, b: usize) -> usize
+    ensures { λ r. ⌜ r ≡ max a b ⌝ }
 {
-    x as usize
+    if a < b { b } else { a }
 }
 
-// How many servers the row has.
-fn server_count(numbers: &[u32]) -> usize
-    requires { ⌜ Valid (now numbers) ⌝ }
-    ensures { λ r. ⌜ r ≡ serverCount (now (numbers .entry)) ⌝ }
+// For each first server the furthest last one of the flows that begin there; 0 where none does.
+pub fn reaches_of(flows: &[u64], n: usize) -> [usize; 18]
+    requires { ⌜ Laid 16 (now flows) n ⌝ }
+    ensures { λ r. ⌜ ReachesOf (now (flows .entry)) n r ⌝ }
 {
-    wide(numbers[1])
-}
-
-// How many cross flows the row has.
-fn flow_count(numbers: &[u32]) -> usize
-    requires { ⌜ Valid (now numbers) ⌝ }
-    ensures { λ r. ⌜ r ≡ flowCount (now (numbers .entry)) ⌝ }
-{
-    let n = server_count(numbers);
-    wide(numbers[2 + 2 * n])
-}
-
-// How many flows the row has, the watched one included.
-fn flow_total(numbers: &[u32]) -> usize
-    requires { ⌜ Valid (now numbers) ⌝ }
-    ensures { λ r. ⌜ (r ≡ length (tandemOf (now (numbers .entry)) .flows)) × (r ≤ 49) ⌝ }
-{
-    flow_count(numbers) + 1
-}
-
-// A server, counted from 0.
-fn server_at(numbers: &[u32], j: usize) -> Server
-    requires { ⌜ Valid (now numbers) × (j < serverCount (now numbers)) ⌝ }
-    ensures { λ r. ⌜ r ≡ serverOf (now (numbers .entry)) j ⌝ }
-{
-    let rate = wide(numbers[2 + 2 * j]);
-    let latency = wide(numbers[3 + 2 * j]);
-    Server {
-        rate: rate as u64,
-        latency: latency as u64,
+    let mut reaches = [0usize; 18];
+    let mut f: usize = 0;
+    while f < n {
+        let a = flow_in(flows, f);
+        let first = a.first;
+        reaches[first] = further(reaches[first], a.last);
+        f = f + 1;
     }
+    reaches
 }
 
-// A cross flow, counted from 0.
-fn cross_flow(numbers: &[u32], k: usize) -> Flow
-    requires { ⌜ Valid (now numbers) × (k < flowCount (now numbers)) ⌝ }
-    ensures { λ r. ⌜ r ≡ flowOf (now (numbers .entry)) k ⌝ }
+// Whether a flow begins behind `first`, up to `last`, and ends behind `last`.
+fn is_crossed(reaches: &[usize], first: usize, last: usize) -> bool
+    requires { ⌜ (first ≤ last) × (last ≤ 16) × (length (now reaches) ≡ 18) ⌝ }
+    ensures { λ r. ⌜ r ≡ any (last - first) (λ d. ltb last (getD (now (reaches .entry)) (first + 1 + d) 0)) ⌝ }
 {
-    let n = server_count(numbers);
-    let at = 3 + 2 * n + 4 * k;
-    let first = wide(numbers[at]);
-    let last = wide(numbers[at + 1]);
-    let burst = wide(numbers[at + 2]);
-    let rate = wide(numbers[at + 3]);
-    Flow {
-        first: first,
-        last: last,
-        burst: burst as u64,
-        rate: rate as u64,
-    }
-}
-
-// The watched flow, which crosses all servers.
-fn watched_flow(numbers: &[u32]) -> Flow
-    requires { ⌜ Valid (now numbers) ⌝ }
-    ensures { λ r. ⌜ r ≡ watchedOf (now (numbers .entry)) ⌝ }
-{
-    let n = server_count(numbers);
-    let m = flow_count(numbers);
-    let at = 3 + 2 * n + 4 * m;
-    let burst = wide(numbers[at]);
-    let rate = wide(numbers[at + 1]);
-    Flow {
-        first: 1,
-        last: n,
-        burst: burst as u64,
-        rate: rate as u64,
-    }
-}
-
-// Flow f of the row: flow 0 is the watched one, and the cross flows follow.
-fn flow_at(numbers: &[u32], f: usize) -> Flow
-    requires { ⌜ Valid (now numbers) × (f < length (tandemOf (now numbers) .flows)) ⌝ }
-    ensures { λ r. ⌜ r ≡ flow (tandemOf (now (numbers .entry))) f ⌝ }
-{
-    if f == 0 {
-        return watched_flow(numbers);
-    }
-    cross_flow(numbers, f - 1)
-}
-
-// Whether the path of b begins inside that of a, behind its first server, and ends behind it.
-fn overlap(a: Flow, b: Flow) -> bool
-    ensures { λ r. ⌜ r ≡ overlapping a b ⌝ }
-{
-    a.first < b.first && (b.first <= a.last && a.last < b.last)
-}
-
-// Whether some flow's path begins inside that of flow f and ends behind it.
-fn is_crossed(numbers: &[u32], f: usize) -> bool
-    requires { ⌜ Valid (now numbers) × (f < length (tandemOf (now numbers) .flows)) ⌝ }
-    ensures { λ r. ⌜ r ≡ any (length (tandemOf (now (numbers .entry)) .flows)) (overlaps (tandemOf (now (numbers .entry))) f) ⌝ }
-{
-    let a = flow_at(numbers, f);
-    let n = flow_total(numbers);
-    let mut h = 0;
-    while h < n {
-        if overlap(a, flow_at(numbers, h)) {
+    let mut h = first + 1;
+    while h <= last {
+        if last < reaches[h] {
             return true;
         }
         h = h + 1;
@@ -175,65 +93,19 @@ fn is_crossed(numbers: &[u32], f: usize) -> bool
 }
 
 // Check 6: whether two paths cross.
-fn is_not_nested(numbers: &[u32]) -> bool
-    requires { ⌜ Valid (now numbers) ⌝ }
-    ensures { λ r. ⌜ r ≡ notNested (tandemOf (now (numbers .entry))) ⌝ }
+pub fn is_not_nested(flows: &[u64], n: usize, reaches: &[usize]) -> bool
+    requires { ⌜ Laid 16 (now flows) n × Reached (alone (now flows) n) n (now reaches) ⌝ }
+    ensures { λ r. ⌜ IsNotNested (now (flows .entry)) n r ⌝ }
 {
-    let n = flow_total(numbers);
-    let mut f = 0;
+    let mut f: usize = 0;
     while f < n {
-        if is_crossed(numbers, f) {
+        let a = flow_in(flows, f);
+        if is_crossed(reaches, a.first, a.last) {
             return true;
         }
         f = f + 1;
     }
     false
-}
-
-// Adds a rate at each server of a path, counted from 1.
-fn add_load(loads: &mut [u64], first: usize, last: usize, rate: u64)
-    requires { ⌜ (1 ≤ first) × (first ≤ last) × (last ≤ 16) × Roomy (now loads) rate ⌝ }
-    ensures { λ _. ⌜ Added first last rate (now (loads .entry)) (now (loads .exit)) ⌝ }
-{
-    let mut i = first - 1;
-    while i < last {
-        loads[i] = loads[i] + rate;
-        i = i + 1;
-    }
-}
-
-// The rates at each server, the watched flow's included, added up.
-fn loads_of(numbers: &[u32]) -> [u64; 16]
-    requires { ⌜ Valid (now numbers) ⌝ }
-    ensures { λ r. ⌜ Loaded (tandemOf (now (numbers .entry))) (length (tandemOf (now (numbers .entry)) .flows)) r ⌝ }
-{
-    let n = flow_total(numbers);
-    let mut loads = [0u64; 16];
-    let mut f: usize = 0;
-    while f < n {
-        let a = flow_at(numbers, f);
-        add_load(&mut loads, a.first, a.last, a.rate);
-        f = f + 1;
-    }
-    loads
-}
-
-// Check 7: the lowest server whose rates sum above its own, or 0.
-fn lowest_crowded(numbers: &[u32]) -> usize
-    requires { ⌜ Valid (now numbers) ⌝ }
-    ensures { λ r. ⌜ r ≡ lowestCrowded (tandemOf (now (numbers .entry))) 1 (size (tandemOf (now (numbers .entry)))) ⌝ }
-{
-    let n = server_count(numbers);
-    let loads = loads_of(numbers);
-    let mut j = 1;
-    while j <= n {
-        let s = server_at(numbers, j - 1);
-        if s.rate < loads[j - 1] {
-            return j;
-        }
-        j = j + 1;
-    }
-    0
 }
 
 // A flow's rate, or its burst.
@@ -243,58 +115,65 @@ fn amount_of(a: Flow, rates: bool) -> u64
     if rates { a.rate } else { a.burst }
 }
 
-// A path's number in the groups' order.
-fn place_of(a: Flow) -> usize
-    requires { ⌜ (1 ≤ a .first) × (a .first ≤ 16) × (1 ≤ a .last) × (a .last ≤ 16) ⌝ }
-    ensures { λ r. ⌜ r ≡ placeOf a ⌝ }
+// A path's number.
+fn place_of(first: usize, last: usize) -> usize
+    requires { ⌜ (1 ≤ first) × (first ≤ 16) × (1 ≤ last) × (last ≤ 16) ⌝ }
+    ensures { λ r. ⌜ r ≡ placeOf first last ⌝ }
 {
-    (a.first - 1) * 16 + (16 - a.last)
+    (first - 1) * 16 + (16 - last)
 }
 
 // The rates, or the bursts, of the cross flows added up for each path.
-fn sums_of(numbers: &[u32], rates: bool) -> [u64; 256]
-    requires { ⌜ Valid (now numbers) ⌝ }
-    ensures { λ r. ⌜ Summed (tandemOf (now (numbers .entry))) rates (length (tandemOf (now (numbers .entry)) .flows)) r ⌝ }
+fn sums_of(flows: &[u64], n: usize, rates: bool) -> [u64; 256]
+    requires { ⌜ Laid 16 (now flows) n ⌝ }
+    ensures { λ r. ⌜ Summed (alone (now (flows .entry)) n) rates n r ⌝ }
 {
-    let n = flow_total(numbers);
     let mut sums = [0u64; 256];
-    let mut f = 1;
+    let mut f: usize = 1;
     while f < n {
-        let a = flow_at(numbers, f);
-        let p = place_of(a);
+        let a = flow_in(flows, f);
+        let p = place_of(a.first, a.last);
         sums[p] = sums[p] + amount_of(a, rates);
         f = f + 1;
     }
     sums
 }
 
-// The watched flow, and behind it each path that some cross flow has, in order, as one flow.
-fn groups_of(numbers: &[u32]) -> Grouped
-    requires { ⌜ Valid (now numbers) × (length (groups (tandemOf (now numbers))) ≤ 31) ⌝ }
-    ensures { λ r. ⌜ r ≡ groupedOf (now (numbers .entry)) ⌝ }
+// The watched flow, and behind it each path that some cross flow has, in order, as one flow: from each first server on, the last servers from the
+// furthest down.
+fn groups_of(servers: &[u64], size: usize, flows: &[u64], n: usize, reaches: &[usize]) -> Grouped
+    requires { ⌜ Groupable (now servers) size (now flows) n (now reaches) ⌝ }
+    ensures { λ r. ⌜ r ≡ groupedFor (tandemIn (now (servers .entry)) size (now (flows .entry)) n) ⌝ }
 {
-    let bursts = sums_of(numbers, false);
-    let rates = sums_of(numbers, true);
+    let bursts = sums_of(flows, n, false);
+    let rates = sums_of(flows, n, true);
     let mut groups = [Flow {
         first: 0,
         last: 0,
         burst: 0,
         rate: 0,
     }; 32];
-    groups[0] = flow_at(numbers, 0);
-    let mut count = 1;
-    let mut p = 0;
-    while p < 256 {
-        if 0 < rates[p] {
-            groups[count] = Flow {
-                first: p / 16 + 1,
-                last: 16 - p % 16,
-                burst: bursts[p],
-                rate: rates[p],
-            };
-            count = count + 1;
+    groups[0] = flow_in(flows, 0);
+    let mut count: usize = 1;
+    let mut first: usize = 1;
+    let mut last = reaches[1];
+    while first <= size {
+        if last < first {
+            first = first + 1;
+            last = reaches[first];
+        } else {
+            let p = place_of(first, last);
+            if 0 < rates[p] {
+                groups[count] = Flow {
+                    first: first,
+                    last: last,
+                    burst: bursts[p],
+                    rate: rates[p],
+                };
+                count = count + 1;
+            }
+            last = last - 1;
         }
-        p = p + 1;
     }
     Grouped {
         count: count,
@@ -303,45 +182,51 @@ fn groups_of(numbers: &[u32]) -> Grouped
 }
 
 // The servers in an array.
-fn servers_of(numbers: &[u32]) -> [Server; 16]
-    requires { ⌜ Valid (now numbers) ⌝ }
-    ensures { λ r. ⌜ r ≡ padded 16 (record { rate = 0; latency = 0 }) (tandemOf (now (numbers .entry)) .servers) ⌝ }
+fn servers_of(servers: &[u64], n: usize) -> [Server; 16]
+    requires { ⌜ (n ≤ 16) × (2 * n ≤ length (now servers)) ⌝ }
+    ensures { λ r. ⌜ r ≡ padded 16 (record { rate = 0; latency = 0 }) (listed n (serverIn (now (servers .entry)))) ⌝ }
 {
-    let n = server_count(numbers);
-    let mut servers = [Server {
+    let mut out = [Server {
         rate: 0,
         latency: 0,
     }; 16];
-    let mut j = 0;
+    let mut j: usize = 0;
     while j < n {
-        servers[j] = server_at(numbers, j);
+        out[j] = Server {
+            rate: servers[2 * j],
+            latency: servers[2 * j + 1],
+        };
         j = j + 1;
     }
-    servers
+    out
 }
 
 // The grid of a row with n servers whose field is g.
-fn grid_of(n: usize, g: usize) -> usize
+fn grid_of(n: usize, g: u32) -> usize
     ensures { λ r. ⌜ r ≡ gridOf n g ⌝ }
 {
-    if g == 0 { 3 } else { g }
+    if g == 0 { 3 } else { g as usize }
 }
 
-// The row of a sheet whose paths do not cross.
-fn full_row(numbers: &[u32]) -> Row
-    requires { ⌜ Valid (now numbers) × (length (groups (tandemOf (now numbers))) ≤ 31) ⌝ }
-    ensures { λ r. ⌜ r ≡ rowOf (now (numbers .entry)) ⌝ }
+// The row of flows whose paths do not cross.
+fn full_row(
+    servers: &[u64],
+    size: usize,
+    flows: &[u64],
+    n: usize,
+    reaches: &[usize],
+    mode: u32,
+    grid: usize,
+) -> Row
+    requires { ⌜ Groupable (now servers) size (now flows) n (now reaches) ⌝ }
+    ensures { λ r. ⌜ r ≡ rowFor (tandemIn (now (servers .entry)) size (now (flows .entry)) n) mode grid ⌝ }
 {
-    let n = server_count(numbers);
-    let at = 3 + 2 * n + 4 * flow_count(numbers);
-    let mode = numbers[at + 2];
-    let grid = grid_of(n, wide(numbers[at + 3]));
-    let servers = servers_of(numbers);
-    let listed = groups_of(numbers);
+    let listed = groups_of(servers, size, flows, n, reaches);
+    let held = servers_of(servers, size);
     let groups = listed.groups;
     Row {
-        size: n,
-        servers: servers,
+        size: size,
+        servers: held,
         count: listed.count,
         groups: groups,
         mode: mode,
@@ -395,25 +280,63 @@ fn refused(check: Check) -> Formed
     }
 }
 
-// The checks' answer on a valid sheet's row, and the row.
-pub fn row_of(numbers: &[u32]) -> Formed
-    requires { ⌜ Valid (now numbers) ⌝ }
-    ensures { λ r. ⌜ r ≡ formedOf (now (numbers .entry)) ⌝ }
+// Check 8 of a row that is nested and whose rates fit, and the row.
+fn with_groups(
+    servers: &[u64],
+    size: usize,
+    flows: &[u64],
+    n: usize,
+    reaches: &[usize],
+    mode: u32,
+    grid: usize,
+) -> Formed
+    requires { ⌜ Groupable (now servers) size (now flows) n (now reaches) × (2 ≤ grid) × (grid ≤ 9) ⌝ }
+    ensures { λ r. ⌜ r ≡ formedFor (tandemIn (now (servers .entry)) size (now (flows .entry)) n) mode grid ⌝ }
 {
-    if is_not_nested(numbers) {
-        return refused(Check::Crossing);
-    }
-    let j = lowest_crowded(numbers);
-    if 0 < j {
-        return refused(Check::Crowded(j));
-    }
-    let row = full_row(numbers);
+    let row = full_row(servers, size, flows, n, reaches, mode, grid);
     let count = row.count - 1;
-    if is_too_many(row.mode, row.grid, count) {
+    if is_too_many(mode, grid, count) {
         return refused(Check::Points(count));
     }
     Formed {
         check: Check::Passed,
         row: row,
     }
+}
+
+// Checks 6 and 8 of a row whose rates fit, and the row.
+pub fn form(servers: &[u64], size: usize, flows: &[u64], n: usize, mode: u32, grid: usize) -> Formed
+    requires { ⌜ Lent (now servers) size (now flows) n × (2 ≤ grid) × (grid ≤ 9) ⌝ }
+    ensures { λ r. ⌜ Form (now (servers .entry)) size (now (flows .entry)) n mode grid r ⌝ }
+{
+    let reaches = reaches_of(flows, n);
+    if is_not_nested(flows, n, &reaches) {
+        return refused(Check::Crossing);
+    }
+    with_groups(servers, size, flows, n, &reaches, mode, grid)
+}
+
+// The checks' answer on a valid sheet's row, and the row.
+pub fn row_of(numbers: &[u32]) -> Formed
+    requires { ⌜ Valid (now numbers) ⌝ }
+    ensures { λ r. ⌜ RowOf (now (numbers .entry)) r ⌝ }
+{
+    let size = server_count(numbers);
+    let n = flow_total(numbers);
+    let mut servers = [0u64; 32];
+    list_servers(numbers, &mut servers);
+    let mut flows = [0u64; 196];
+    list_flows(numbers, &mut flows);
+    let reaches = reaches_of(&flows, n);
+    if is_not_nested(&flows, n, &reaches) {
+        return refused(Check::Crossing);
+    }
+    let j = lowest_crowded(numbers);
+    if 0 < j {
+        return refused(Check::Crowded(j));
+    }
+    let at = 3 + 2 * size + 4 * flow_count(numbers);
+    let mode = numbers[at + 2];
+    let grid = grid_of(size, numbers[at + 3]);
+    with_groups(&servers, size, &flows, n, &reaches, mode, grid)
 }

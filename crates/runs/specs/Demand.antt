@@ -4,8 +4,9 @@ use Prim.Native.Nat.{ℕ, _+_, _≤_}
 use mathlib.Core.Path.{_≡_}
 use mathlib.Core.List.{List, List·Memᴰ}
 use Rattle.sheet.specs.Valid.{serverCount, mode, grid}
-use Rattle.row.specs.Tandem.{Tandem, size}
-use Rattle.row.specs.OfSheet.{tandemOf, gridOf}
+use Rattle.tandem.specs.Tandem.{Tandem, size}
+use Rattle.tandem.specs.OfSheet.{tandemOf}
+use Rattle.row.specs.OfSheet.{gridOf}
 use Rattle.tree.specs.Bound.{searched}
 use Rattle.runs.specs.Lines.{keep, Prefix}
 use Rattle.runs.specs.Run.{Run, joinedBy, leftBy, ofFlow}

@@ -9,22 +9,24 @@ use native.Mathlib.Omega.{arith}
 use lib.Dec.{eqb, ltb}
 use lib.ListN.{length, replicate}
 use Rattle.sheet.specs.Sheet.{sheetOf, these}
-use Rattle.sheet.specs.TripLaws.{read-valid}
+use Rattle.sheet.specs.ValidLaws.{read-valid}
 use Rattle.sheet.specs.Valid.{serverCount, mode, grid}
 use Rattle.curves.specs.Curve.{Rates, delay}
 use Rattle.curves.specs.StageLaws.{rates-weaken}
 use Rattle.row.specs.declared.Check.the-variants.{Passed}
-use Rattle.row.specs.Sums.{weigh}
-use Rattle.row.specs.Tandem.{Tandem, size, flow, watched, rates}
+use Rattle.tandem.specs.Sums.{weigh}
+use Rattle.tandem.specs.Tandem.{Tandem, size, flow, watched, rates}
 use Rattle.row.specs.Groups.{groups}
-use Rattle.row.specs.Accepted.{Sound, Accepted}
-use Rattle.row.specs.OfSheet.{tandemOf, gridOf, checkOf}
+use Rattle.tandem.specs.Sound.{Sound}
+use Rattle.row.specs.Accepted.{Accepted}
+use Rattle.tandem.specs.OfSheet.{tandemOf}
+use Rattle.row.specs.OfSheet.{gridOf, checkOf}
 use Rattle.tree.specs.Stretch.{Stretch, span, curve}
 use Rattle.tree.specs.Fits.{Fits}
 use Rattle.tree.specs.Tree.{tree}
 use Rattle.tree.specs.Grid.{Answer, better, bestOf, foundOf, stepsOf, pointsOf}
 use Rattle.tree.specs.Bound.{bound, extraOf, answerAt, searched}
-use Rattle.row.specs.SumLaws.{total-at}
+use Rattle.tandem.specs.SumLaws.{total-at}
 use Rattle.tree.specs.StretchLaws.{curve-rates}
 use Rattle.tree.specs.NestedLaws.{tree-fits}
 use Rattle.runs.specs.Lines.{keep, by, Prefix}
@@ -59,7 +61,8 @@ module _ (row : Tandem) (sound : Sound row) {B : Type 0} (run : Run B) (H : ℕ)
   front : (t : ℕ) → t + bound row extra p ≤ H → Prefix (come run watched 1 t) (gone run watched 1 (span p) (t + bound row extra p))
   unfolding bound come watched
   front t h =
-      prefix-both (prefix-keep (λ b. watched (run .of b)) (by-prefix (run .join 1) t (t + bound row extra p) (omega arith))) (claim .lines (t + bound row extra p) h)
+      prefix-both (prefix-keep (λ b. watched (run .of b)) (by-prefix (run .join 1) t (t + bound row extra p) (omega arith)))
+      (claim .lines (t + bound row extra p) h)
       (deadline H (curve row extra p) (flow row 0 .burst) (flow row 0 .rate) (λ a. length (come run watched 1 a)) (λ a. length (gone run watched 1 (span p) a))
       (keep-length-mono (λ b. watched (run .of b)) (run .join 1))
       (bucketed-after H (ofFlow run 0) (run .join 1) (flow row 0 .burst) (flow row 0 .rate) (rw (sound .enters) at (keeps .buckets 0 (sound .some))))

@@ -13,15 +13,18 @@ use Prim.Native.Nat.{ℕ, zero, suc}
 use mathlib.Core.Path.{_≡_, refl}
 use mathlib.Core.List.{List, [], _∷_}
 use Rattle.numbers.specs.Seven.{numberAt}
-use Rattle.sheet.specs.Rule.{ruleAt, seenAfter, serverNumbers}
-use Rattle.sheet.specs.Sheet.{stepOn, sheetOf, these}
+use Rattle.fields.specs.Rule.{ruleAt, seenAfter, fieldAt}
+use Rattle.fields.specs.Step.{stepOn}
+use Rattle.sheet.specs.Sheet.{sheetOf, these}
 use Rattle.curves.specs.Slots.{bucket, serve}
 use Rattle.row.specs.declared.Check.the-variants.{Passed}
-use Rattle.row.specs.Sums.{total, any}
-use Rattle.row.specs.Tandem.{crosses, on, rates}
+use Rattle.tandem.specs.Sums.{total, any}
+use Rattle.tandem.specs.Tandem.{crosses, on, rates}
 use Rattle.row.specs.Groups.{used, from, from-on, groups}
-use Rattle.row.specs.Checks.{overlaps, notNested, crowded, lowestCrowded, tooMany}
-use Rattle.row.specs.OfSheet.{listed, tandemOf, gridOf, checkOf}
+use Rattle.tandem.specs.Crowded.{crowded, lowestCrowded}
+use Rattle.row.specs.Checks.{overlaps, notNested, tooMany}
+use Rattle.tandem.specs.OfSheet.{listed, tandemOf}
+use Rattle.row.specs.OfSheet.{gridOf, checkOf}
 use Rattle.runs.specs.Lines.{keep, by}
 use Rattle.runs.specs.Run.{Run, Keeps}
 use Rattle.runs.specs.RunTests.{each, eachOf, begins, same, onPath, inOrder, relayed, keepsBuckets, guarantees, keepsAll}
@@ -67,7 +70,7 @@ abbrev pub run : Run ℕ
 run = record { of = λ b. b; join = joins; leave = leaves }
 
 pub sheet-read : sheetOf sheet ≡ these sheet
-unfolding sheetOf stepOn ruleAt seenAfter serverNumbers numberAt
+unfolding sheetOf stepOn ruleAt seenAfter fieldAt numberAt
 sheet-read = refl
 
 pub sheet-passed : checkOf sheet ≡ Passed

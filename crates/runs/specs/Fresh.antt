@@ -9,19 +9,21 @@ use mathlib.Core.List.{List, [], _∷_, List·Memᴰ}
 use native.Mathlib.Omega.{arith}
 use lib.Dec.{ltb}
 use Rattle.numbers.specs.Seven.{numberAt}
-use Rattle.sheet.specs.Rule.{ruleAt, seenAfter, serverNumbers}
-use Rattle.sheet.specs.Sheet.{stepOn, sheetOf, these}
+use Rattle.fields.specs.Rule.{ruleAt, seenAfter, fieldAt}
+use Rattle.fields.specs.Step.{stepOn}
+use Rattle.sheet.specs.Sheet.{sheetOf, these}
 use Rattle.curves.specs.Slots.{bucket, serve}
-use Rattle.curves.specs.Curve.{neutral, joined, ceil, greatest, catchUp, leastWait, remainder, lateness, delay}
-use Rattle.curves.specs.Curve.{server as serverShape}
+use Rattle.curves.specs.Curve.{neutral, joined, ceil, greatest, catchUp, leastWait, remainder, lateness, delay, server as serverShape}
 use Rattle.row.specs.declared.Check.the-variants.{Passed}
-use Rattle.row.specs.Sums.{total, any}
-use Rattle.row.specs.Tandem.{crosses, on, bursts, rates}
+use Rattle.tandem.specs.Sums.{total, any}
+use Rattle.tandem.specs.Tandem.{crosses, on, bursts, rates}
 use Rattle.row.specs.Groups.{used, from, from-on, groups}
-use Rattle.row.specs.Checks.{overlaps, notNested, crowded, lowestCrowded, tooMany}
-use Rattle.row.specs.OfSheet.{listed, tandemOf, gridOf, checkOf}
+use Rattle.tandem.specs.Crowded.{crowded, lowestCrowded}
+use Rattle.row.specs.Checks.{overlaps, notNested, tooMany}
+use Rattle.tandem.specs.OfSheet.{listed, tandemOf}
+use Rattle.row.specs.OfSheet.{gridOf, checkOf}
 use Rattle.tree.specs.Stretch.{groupWait, afterGroup, curve}
-use Rattle.tree.specs.Tree.{walk, top, tree}
+use Rattle.tree.specs.Tree.{stretchFrom, top, tree}
 use Rattle.tree.specs.Grid.{stepsOf, pointsOf, better, foundOf}
 use Rattle.tree.specs.Bound.{bound, waits, answerAt, searched}
 use Rattle.runs.specs.Lines.{keep, by, Prefix}
@@ -78,7 +80,7 @@ run = record {
 }
 
 pub sheet-read : sheetOf sheet ≡ these sheet
-unfolding sheetOf stepOn ruleAt seenAfter serverNumbers numberAt
+unfolding sheetOf stepOn ruleAt seenAfter fieldAt numberAt
 sheet-read = refl
 
 pub sheet-passed : checkOf sheet ≡ Passed
@@ -92,7 +94,7 @@ run-keeps = keeps-all (tandemOf sheet) run 5 refl
 
 pub bound-is : boundOf sheet ≡ 4
 unfolding boundOf searched foundOf answerAt waits bound stepsOf pointsOf better tandemOf listed gridOf groups from-on from used any on
-    tree walk top curve joined neutral serverShape afterGroup groupWait leastWait catchUp remainder bursts rates total delay lateness greatest ceil
+    tree stretchFrom top curve joined neutral serverShape afterGroup groupWait leastWait catchUp remainder bursts rates total delay lateness greatest ceil
 bound-is = refl
 
 -- demand 3 says so of this run, with its bound

@@ -6,7 +6,7 @@ use Prim.Native.Nat.{ℕ, zero, suc, _+_, _*_, _-_, _≤_, _<_}
 use native.Mathlib.Nat.{mul-le-mul-left}
 use native.Mathlib.Omega.{arith}
 use Rattle.curves.specs.Curve.{Shape, Under, Rates, neutral, joined, leastWait, remainder, delay}
-use Rattle.curves.specs.SlotsLaws.{le-or-lt}
+use Rattle.ground.specs.OrderLaws.{le-or-lt}
 use Rattle.curves.specs.JoinLaws.{joined-split}
 use Rattle.curves.specs.RemainderLaws.{remainder-under}
 use Rattle.curves.specs.DelayLaws.{delay-under}

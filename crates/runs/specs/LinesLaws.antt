@@ -10,11 +10,12 @@ use native.Mathlib.Omega.{arith}
 use lib.Dec.{eqb}
 use lib.ListN.{length, length-append}
 use borrow.Author.Tests.{eq-eqb}
-use Rattle.curves.specs.SlotsLaws.{le-or-lt}
-use Rattle.row.specs.Sums.{weigh, total}
+use Rattle.ground.specs.OrderLaws.{le-or-lt}
+use Rattle.tandem.specs.Sums.{weigh, total}
 use Rattle.row.specs.Groups.{put}
-use Rattle.row.specs.SumLaws.{total-mono, total-add, total-at}
-use Rattle.tree.specs.Searched.{Each}
+use Rattle.tandem.specs.SumLaws.{total-mono, total-add, total-at}
+use Rattle.ground.specs.Each.{Each}
+use Rattle.ground.specs.EachLaws.{each-append, each-front}
 use Rattle.runs.specs.Lines.{keep, by, Prefix}
 
 module _ {B : Type 0} where
@@ -117,11 +118,7 @@ module _ {B : Type 0} where
   pub by-each : (P : B → Type 0) (f : ℕ → List B) (H : ℕ) → ((t : ℕ) → 0 < t → t ≤ H → Each P (f t)) → (t : ℕ) → t ≤ H → Each P (by f t)
   unfolding by
   by-each P f H h zero k = tt
-  by-each P f H h (suc t) k = each-append (by f t) (f (suc t)) (by-each P f H h t (omega arith)) (h (suc t) (omega arith) k)
-    where
-      each-append : (l m : List B) → Each P l → Each P m → Each P (l ++ m)
-      each-append [] m x y = y
-      each-append (a ∷ l) m x y = (x .0, each-append l m (x .1) y)
+  by-each P f H h (suc t) k = each-append P (by f t) (f (suc t)) (by-each P f H h t (omega arith)) (h (suc t) (omega arith) k)
 
   pub by-same : (p : B → Bool) (f g : ℕ → List B) (H : ℕ) → ((t : ℕ) → 0 < t → t ≤ H → keep p (f t) ≡ keep p (g t))
       → (t : ℕ) → t ≤ H → keep p (by f t) ≡ keep p (by g t)
@@ -131,27 +128,10 @@ module _ {B : Type 0} where
       rw (keep-append p (by f t) (f (suc t)), keep-append p (by g t) (g (suc t)), by-same p f g H h t (omega arith), h (suc t) (omega arith) k)
 
   pub each-prefix : (P : B → Type 0) {l m : List B} → Prefix l m → Each P m → Each P l
-  each-prefix P {l} {m} h k = go l (subst (Each P) (sym (h .whole)) k)
-    where
-      go : (x : List B) → Each P (x ++ h .rest) → Each P x
-      go [] e = tt
-      go (a ∷ x) e = (e .0, go x (e .1))
-
-  pub each-map : (P Q : B → Type 0) → ((b : B) → P b → Q b) → (l : List B) → Each P l → Each Q l
-  each-map P Q h [] e = tt
-  each-map P Q h (x ∷ xs) e = (h x (e .0), each-map P Q h xs (e .1))
+  each-prefix P {l} {m} h k = each-front P l (h .rest) (subst (Each P) (sym (h .whole)) k)
 
   pub keep-length-mono : (p : B → Bool) (f : ℕ → List B) (a b : ℕ) → a ≤ b → length (keep p (by f a)) ≤ length (keep p (by f b))
   keep-length-mono p f a b h = prefix-length (prefix-keep p (by-prefix f a b h))
-
-  pub each-keep : (P : B → Type 0) (p : B → Bool) (l : List B) → Each P l → Each P (keep p l)
-  unfolding keep
-  each-keep P p [] h = tt
-  each-keep P p (x ∷ xs) h = go (p x) (each-keep P p xs (h .1))
-    where
-      go : (c : Bool) → Each P (keep p xs) → Each P (put c x (keep p xs))
-      go true r = (h .0, r)
-      go false r = r
 
 -- bytes counted flow by flow
 
@@ -184,7 +164,8 @@ module _ {B : Type 0} (flow : B → ℕ) where
       let m : total n (λ f. weigh (G f) (weigh (eqb f (flow x)) 1) + weigh (G f) (length (keep (λ b. eqb f (flow b)) xs)))
       ≤ total n (λ f. weigh (G f) (length (put (eqb f (flow x)) x (keep (λ b. eqb f (flow b)) xs)))) =
       total-mono n (λ f. weigh (G f) (weigh (eqb f (flow x)) 1) + weigh (G f) (length (keep (λ b. eqb f (flow b)) xs)))
-      (λ f. weigh (G f) (length (put (eqb f (flow x)) x (keep (λ b. eqb f (flow b)) xs)))) (λ f l. each (G f) (eqb f (flow x)) (keep (λ b. eqb f (flow b)) xs)) in
+      (λ f. weigh (G f) (length (put (eqb f (flow x)) x (keep (λ b. eqb f (flow b)) xs))))
+      (λ f l. each (G f) (eqb f (flow x)) (keep (λ b. eqb f (flow b)) xs)) in
       omega (arith, a, i, o, s, m)
     where
       each : (g c : Bool) (l : List B) → weigh g (weigh c 1) + weigh g (length l) ≤ weigh g (length (put c x l))

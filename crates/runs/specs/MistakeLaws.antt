@@ -10,21 +10,24 @@ use native.Mathlib.Omega.{arith}
 use lib.Dec.{ltb}
 use lib.ListN.{length}
 use Rattle.numbers.specs.Seven.{numberAt}
-use Rattle.sheet.specs.Rule.{ruleAt, seenAfter, serverNumbers}
-use Rattle.sheet.specs.Sheet.{stepOn, sheetOf, these}
+use Rattle.fields.specs.Rule.{ruleAt, seenAfter, fieldAt}
+use Rattle.fields.specs.Step.{stepOn}
+use Rattle.sheet.specs.Sheet.{sheetOf, these}
 use Rattle.sheet.specs.Valid.{serverCount, mode, grid}
 use Rattle.curves.specs.Slots.{bucket, serve, left, zeroUpTo, Covers, Least}
-use Rattle.curves.specs.SlotsLaws.{le-or-lt, zero-before, zero-after}
-use Rattle.curves.specs.Curve.{neutral, joined, ceil, greatest, catchUp, leastWait, remainder, lateness, delay}
-use Rattle.curves.specs.Curve.{server as serverShape}
+use Rattle.ground.specs.OrderLaws.{le-or-lt}
+use Rattle.curves.specs.SlotsLaws.{zero-before, zero-after}
+use Rattle.curves.specs.Curve.{neutral, joined, ceil, greatest, catchUp, leastWait, remainder, lateness, delay, server as serverShape}
 use Rattle.row.specs.declared.Check.the-variants.{Passed}
-use Rattle.row.specs.Sums.{total, any}
-use Rattle.row.specs.Tandem.{Tandem, crosses, on, bursts, rates}
+use Rattle.tandem.specs.Sums.{total, any}
+use Rattle.tandem.specs.Tandem.{Tandem, crosses, on, bursts, rates}
 use Rattle.row.specs.Groups.{put, used, from, from-on, groups}
-use Rattle.row.specs.Checks.{overlaps, notNested, crowded, lowestCrowded, tooMany}
-use Rattle.row.specs.OfSheet.{listed, tandemOf, gridOf, checkOf}
+use Rattle.tandem.specs.Crowded.{crowded, lowestCrowded}
+use Rattle.row.specs.Checks.{overlaps, notNested, tooMany}
+use Rattle.tandem.specs.OfSheet.{listed, tandemOf}
+use Rattle.row.specs.OfSheet.{gridOf, checkOf}
 use Rattle.tree.specs.Stretch.{groupWait, afterGroup, curve}
-use Rattle.tree.specs.Tree.{walk, top, tree}
+use Rattle.tree.specs.Tree.{stretchFrom, top, tree}
 use Rattle.tree.specs.Grid.{stepsOf, pointsOf, better, foundOf}
 use Rattle.tree.specs.Bound.{bound, waits, answerAt, searched}
 use Rattle.runs.specs.Lines.{keep, by}
@@ -34,8 +37,8 @@ use Rattle.runs.specs.RunTests.{each, eachOf, begins, same, has, onPath,
 use Rattle.runs.specs.RunTestLaws.{on-path, in-order, relay-kept, buckets-kept, guarantees-kept, keeps-all, has-is, has-not}
 use Rattle.runs.specs.RunLaws.{bucket-after}
 use Rattle.runs.specs.DemandLaws.{demand-three}
-use Rattle.runs.specs.Mistakes.{highest, runningLeft, burstSheet, burstRun}
-use Rattle.runs.specs.Mistakes.{SameBytes, KeepsSlots, turnSheet, turnEnters, turnSlots, between, straightRun, turnRun, turnTaken}
+use Rattle.runs.specs.Mistakes.{highest, runningLeft, burstSheet, burstRun, SameBytes, KeepsSlots, turnSheet, turnEnters, turnSlots, between}
+use Rattle.runs.specs.Mistakes.{straightRun, turnRun, turnTaken}
 
 -- the running greatest value
 
@@ -74,7 +77,7 @@ running-delay = record { holds = running-covers; least = λ d k. go d (le-or-lt 
     go d (inr l) k = absurd (omega (arith, k, zero-before 4 (1 + d) (highest (1 + d) (λ u. serve 10 0 u - bucket 40 6 (u - 4))) (omega arith)))
 
 pub burst-read : sheetOf burstSheet ≡ these burstSheet
-unfolding sheetOf stepOn ruleAt seenAfter serverNumbers numberAt
+unfolding sheetOf stepOn ruleAt seenAfter fieldAt numberAt
 burst-read = refl
 
 pub burst-passed : checkOf burstSheet ≡ Passed
@@ -85,7 +88,7 @@ burst-passed = refl
 pub burst-bound : (boundOf burstSheet ≡ 7)
     × (searched (tandemOf burstSheet) (mode burstSheet) (gridOf (serverCount burstSheet) (grid burstSheet)) .best .waits ≡ 4 ∷ [])
 unfolding boundOf searched foundOf answerAt waits bound stepsOf pointsOf better tandemOf listed gridOf groups from-on from used any on
-    tree walk top curve joined neutral serverShape afterGroup groupWait leastWait catchUp remainder bursts rates total delay lateness greatest ceil
+    tree stretchFrom top curve joined neutral serverShape afterGroup groupWait leastWait catchUp remainder bursts rates total delay lateness greatest ceil
 burst-bound = (refl, refl)
 
 -- the run keeps every premise
@@ -111,7 +114,7 @@ bytes-slots row run H k = record {
 }
 
 pub turn-read : sheetOf turnSheet ≡ these turnSheet
-unfolding sheetOf stepOn ruleAt seenAfter serverNumbers numberAt
+unfolding sheetOf stepOn ruleAt seenAfter fieldAt numberAt
 turn-read = refl
 
 pub turn-passed : checkOf turnSheet ≡ Passed
@@ -120,7 +123,7 @@ turn-passed = refl
 
 pub turn-bound : boundOf turnSheet ≡ 4
 unfolding boundOf searched foundOf answerAt waits bound stepsOf pointsOf better tandemOf listed gridOf groups from-on from used any on
-    tree walk top curve joined neutral serverShape afterGroup groupWait leastWait catchUp remainder bursts rates total delay lateness greatest ceil
+    tree stretchFrom top curve joined neutral serverShape afterGroup groupWait leastWait catchUp remainder bursts rates total delay lateness greatest ceil
 turn-bound = refl
 
 -- in the order of bytes the bound is kept, and reached: byte 8, a watched one, entered in slot 1 and is not out by slot 4

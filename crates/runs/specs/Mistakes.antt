@@ -7,8 +7,8 @@ use mathlib.Core.List.{List, [], _∷_}
 use lib.Dec.{ltb}
 use lib.ListN.{length}
 use Rattle.curves.specs.Slots.{bucket, zeroUpTo}
-use Rattle.row.specs.Tandem.{Tandem, size}
-use Rattle.row.specs.OfSheet.{listed}
+use Rattle.tandem.specs.Tandem.{Tandem, size}
+use Rattle.tandem.specs.OfSheet.{listed}
 use Rattle.runs.specs.Lines.{keep, by, Prefix}
 use Rattle.runs.specs.Run.{Run, leftBy, OnPath, Relayed, KeepsBuckets, Guarantees}
 

@@ -10,8 +10,8 @@ use mathlib.Core.List.{List}
 use lib.Dec.{eqb}
 use lib.ListN.{length}
 use Rattle.curves.specs.Slots.{bucket, serve}
-use Rattle.row.specs.Tandem.{Tandem, size, server, flow, crosses}
-use Rattle.tree.specs.Searched.{Each}
+use Rattle.tandem.specs.Tandem.{Tandem, size, server, flow, crosses}
+use Rattle.ground.specs.Each.{Each}
 use Rattle.runs.specs.Lines.{keep, by, Prefix}
 
 -- a record: of each byte its flow, where flow 0 is the watched one; the bytes that join the line of server j in slot t; and those that leave it

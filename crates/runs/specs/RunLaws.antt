@@ -8,8 +8,8 @@ use native.Mathlib.Omega.{arith}
 use lib.Dec.{eqb}
 use lib.ListN.{length, length-append}
 use Rattle.curves.specs.Slots.{bucket}
-use Rattle.row.specs.Sums.{weigh, total}
-use Rattle.row.specs.SumLaws.{total-mono, total-scale}
+use Rattle.tandem.specs.Sums.{weigh, total}
+use Rattle.tandem.specs.SumLaws.{total-mono, total-scale}
 use Rattle.runs.specs.Lines.{keep, by, Prefix}
 use Rattle.runs.specs.Run.{Bucketed}
 use Rattle.runs.specs.LinesLaws.{keep-append, by-prefix, number-le}

@@ -10,11 +10,11 @@ use lib.Dec.{eqb}
 use lib.ListN.{length}
 use borrow.Author.Tests.{leb-true, eqb-true, eq-eqb}
 use Rattle.curves.specs.Slots.{serve}
-use Rattle.curves.specs.SlotsLaws.{le-or-lt}
-use Rattle.row.specs.Tandem.{Tandem, size, server, crosses}
-use Rattle.row.specs.TestLaws.{both-true, or-left, or-right, or-cases}
-use Rattle.row.specs.SumLaws.{any-found}
-use Rattle.tree.specs.Searched.{Each}
+use Rattle.ground.specs.OrderLaws.{le-or-lt}
+use Rattle.tandem.specs.Tandem.{Tandem, size, server, crosses}
+use Rattle.tandem.specs.TestLaws.{both-true, or-left, or-right, or-cases}
+use Rattle.tandem.specs.SumLaws.{any-found}
+use Rattle.ground.specs.Each.{Each}
 use Rattle.runs.specs.Lines.{keep, Prefix}
 use Rattle.runs.specs.Run.{Run, joinedBy, leftBy, OnPath, InOrder, Relayed, KeepsBuckets, Guarantees, Keeps}
 use Rattle.runs.specs.RunTests.{each, eachOf, begins, same, has, onPath, inOrder, relayed, keepsBuckets, guarantees, keepsAll}

@@ -6,8 +6,8 @@ use mathlib.Core.List.{List, [], _∷_}
 use lib.Dec.{leb, eqb}
 use lib.ListN.{length}
 use Rattle.curves.specs.Slots.{bucket, serve}
-use Rattle.row.specs.Sums.{any}
-use Rattle.row.specs.Tandem.{Tandem, size, server, flow, crosses}
+use Rattle.tandem.specs.Sums.{any}
+use Rattle.tandem.specs.Tandem.{Tandem, size, server, flow, crosses}
 use Rattle.runs.specs.Lines.{keep}
 use Rattle.runs.specs.Run.{Run, joinedBy, leftBy, ofFlow}
 

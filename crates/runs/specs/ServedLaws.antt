@@ -12,20 +12,21 @@ use lib.ListN.{length}
 use Rattle.curves.specs.Slots.{serve}
 use Rattle.curves.specs.Curve.{Shape, Under, Rates, neutral, joined, leastWait, remainder}
 use Rattle.curves.specs.Curve.{server as serverShape}
-use Rattle.curves.specs.SlotsLaws.{le-or-lt}
+use Rattle.ground.specs.OrderLaws.{le-or-lt}
 use Rattle.curves.specs.StageLaws.{rates-weaken}
-use Rattle.row.specs.Tandem.{Tandem, Path, size, server, flow, crosses, on, bursts, rates}
+use Rattle.tandem.specs.Tandem.{Tandem, Path, size, server, flow, crosses, on, bursts, rates}
 use Rattle.tree.specs.Stretch.{Stretch, none, then-server, then-group, span, groupWait, afterGroup, curve}
 use Rattle.tree.specs.Fits.{Fits}
-use Rattle.row.specs.TestLaws.{or-left, or-right}
-use Rattle.row.specs.SumLaws.{total-or}
-use Rattle.row.specs.TandemLaws.{on-is}
+use Rattle.tandem.specs.TestLaws.{or-left, or-right}
+use Rattle.tandem.specs.SumLaws.{total-or}
+use Rattle.tandem.specs.TandemLaws.{on-is}
 use Rattle.tree.specs.StretchLaws.{spans, ends-in-row, curve-rates}
-use Rattle.tree.specs.Searched.{Each}
+use Rattle.ground.specs.Each.{Each}
+use Rattle.ground.specs.EachLaws.{each-map}
 use Rattle.runs.specs.Lines.{keep, by, Prefix}
 use Rattle.runs.specs.Run.{Run, Keeps, Bucketed}
 use Rattle.runs.specs.Served.{Serves, past, among, come, gone, Good}
-use Rattle.runs.specs.LinesLaws.{keep-keep, keep-all, keep-or, keep-length-mono, by-prefix, by-each, by-same, each-prefix, each-map}
+use Rattle.runs.specs.LinesLaws.{keep-keep, keep-all, keep-or, keep-length-mono, by-prefix, by-each, by-same, each-prefix}
 use Rattle.runs.specs.LinesLaws.{prefix-refl, prefix-trans, prefix-keep, prefix-length, prefix-both}
 use Rattle.runs.specs.RunLaws.{bucketed-after, sum-bucket}
 use Rattle.runs.specs.LeftoverLaws.{leftover, series, serves-neutral}
@@ -124,8 +125,8 @@ module _ (row : Tandem) {B : Type 0} (run : Run B) where
         all-in : (t : ℕ) → t ≤ H → Each (λ b. among run P b ≡ true) (by (run .join j) t)
         all-in =
             by-each (λ b. among run P b ≡ true) (run .join j) H
-            (λ t h k. each-map (λ b. crosses row (run .of b) j ≡ true) (λ b. among run P b ≡ true) (λ b x. sym (e (run .of b)) ∙ x)
-            (run .join j t) (keeps .paths j t hj hn h k))
+            (λ t h k. each-map (λ b. crosses row (run .of b) j ≡ true) (λ b. among run P b ≡ true) (run .join j t)
+            (λ b x. sym (e (run .of b)) ∙ x) (keeps .paths j t hj hn h k))
 
         came : (t : ℕ) → t ≤ H → come run P j t ≡ by (run .join j) t
         came t h = keep-all (among run P) (by (run .join j) t) (all-in t h)

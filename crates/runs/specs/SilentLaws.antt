@@ -6,7 +6,7 @@ use mathlib.Core.List.{List, [], _++_}
 use native.Mathlib.Nat.{mul-zero}
 use native.Mathlib.Omega.{arith}
 use Rattle.curves.specs.Slots.{serve}
-use Rattle.row.specs.Tandem.{Tandem, server}
+use Rattle.tandem.specs.Tandem.{Tandem, server}
 use Rattle.runs.specs.Lines.{keep, by}
 use Rattle.runs.specs.Run.{Run, Keeps}
 

@@ -8,9 +8,9 @@ use Prim.Native.Nat.{ℕ, zero, suc, _+_, _≤_, _<_}
 use native.Mathlib.Omega.{arith}
 use lib.ListN.{length, getD, List·getD-append}
 use borrow.Author.Tests.{eqb-true, eq-eqb}
-use Rattle.row.specs.Tandem.{Tandem, size, crosses}
-use Rattle.row.specs.Accepted.{Sound}
-use Rattle.row.specs.TandemLaws.{is-crosses}
+use Rattle.tandem.specs.Tandem.{Tandem, size, crosses}
+use Rattle.tandem.specs.Sound.{Sound}
+use Rattle.tandem.specs.TandemLaws.{is-crosses}
 use Rattle.runs.specs.Lines.{keep, Prefix}
 use Rattle.runs.specs.Run.{Run, Keeps, joinedBy, leftBy, ofFlow}
 use Rattle.runs.specs.Demand.{Within}

@@ -6,19 +6,21 @@ use mathlib.Core.Path.{_≡_, refl}
 use mathlib.Core.List.{List, [], _∷_, List·Memᴰ}
 use native.Mathlib.Omega.{arith}
 use Rattle.numbers.specs.Seven.{numberAt}
-use Rattle.sheet.specs.Rule.{ruleAt, seenAfter, serverNumbers}
-use Rattle.sheet.specs.Sheet.{stepOn, sheetOf, these}
+use Rattle.fields.specs.Rule.{ruleAt, seenAfter, fieldAt}
+use Rattle.fields.specs.Step.{stepOn}
+use Rattle.sheet.specs.Sheet.{sheetOf, these}
 use Rattle.curves.specs.Slots.{bucket, serve}
-use Rattle.curves.specs.Curve.{neutral, joined, ceil, greatest, lateness, delay}
-use Rattle.curves.specs.Curve.{server as serverShape}
+use Rattle.curves.specs.Curve.{neutral, joined, ceil, greatest, lateness, delay, server as serverShape}
 use Rattle.row.specs.declared.Check.the-variants.{Passed}
-use Rattle.row.specs.Sums.{total, any}
-use Rattle.row.specs.Tandem.{crosses, on, rates}
+use Rattle.tandem.specs.Sums.{total, any}
+use Rattle.tandem.specs.Tandem.{crosses, on, rates}
 use Rattle.row.specs.Groups.{used, from, from-on, groups}
-use Rattle.row.specs.Checks.{overlaps, notNested, crowded, lowestCrowded, tooMany}
-use Rattle.row.specs.OfSheet.{listed, tandemOf, gridOf, checkOf}
+use Rattle.tandem.specs.Crowded.{crowded, lowestCrowded}
+use Rattle.row.specs.Checks.{overlaps, notNested, tooMany}
+use Rattle.tandem.specs.OfSheet.{listed, tandemOf}
+use Rattle.row.specs.OfSheet.{gridOf, checkOf}
 use Rattle.tree.specs.Stretch.{curve}
-use Rattle.tree.specs.Tree.{walk, top, tree}
+use Rattle.tree.specs.Tree.{stretchFrom, top, tree}
 use Rattle.tree.specs.Grid.{stepsOf, pointsOf, better, foundOf}
 use Rattle.tree.specs.Bound.{bound, waits, answerAt, searched}
 use Rattle.runs.specs.Lines.{keep, by}
@@ -49,7 +51,7 @@ abbrev pub run : Run ℕ
 run = record { of = λ b. 0; join = λ j. joining; leave = λ j. leaving }
 
 pub sheet-read : sheetOf sheet ≡ these sheet
-unfolding sheetOf stepOn ruleAt seenAfter serverNumbers numberAt
+unfolding sheetOf stepOn ruleAt seenAfter fieldAt numberAt
 sheet-read = refl
 
 pub sheet-passed : checkOf sheet ≡ Passed
@@ -64,7 +66,7 @@ run-keeps = keeps-all (tandemOf sheet) run 2 refl
 -- "P3 | as P2, watched 6, 5 | bound 1"
 pub bound-is : boundOf sheet ≡ 1
 unfolding boundOf searched foundOf answerAt waits bound stepsOf pointsOf better tandemOf listed gridOf groups from-on from used any on
-    tree walk top curve joined neutral serverShape delay lateness greatest ceil
+    tree stretchFrom top curve joined neutral serverShape delay lateness greatest ceil
 bound-is = refl
 
 -- byte 10 entered in slot 1, is not out by the end of slot 1, and is out by the end of slot 2

@@ -100,7 +100,7 @@ abbrev pub Words : List ℕ → Type 0
 Words [] = Unit {0}
 Words (x ∷ xs) = (x < 4294967296) × Words xs
 
-line-end-alone : (room line : ℕ) → textFrom room line Between (10 ∷ []) ≡ these []
+pub line-end-alone : (room line : ℕ) → textFrom room line Between (10 ∷ []) ≡ these []
 unfolding turnOf outsideBy isBlank
 line-end-alone room line = refl
 

@@ -1,9 +1,9 @@
 // A sheet's numbers as text: decimal numbers with blanks or line ends between them, and comments from `#` to the line's end.
 ghost use mathlib.Core.Path.{_≡_};
 ghost use Prim.Native.Nat.{_+_, _≤_, _<_};
-ghost use lib.ListN.{length, getD};
-ghost use lib.Seq.{sets};
-ghost use Rattle.scribe.specs.Text.{isBlank, isDigit, outsideBy, longerBy, insideBy, turnOf, lineAfter, textOf, givesText, numbersIn};
+ghost use lib.ListN.{getD};
+ghost use Rattle.scribe.specs.Text.{isBlank, isDigit, outsideBy, longerBy, insideBy, turnOf, lineAfter};
+ghost use Rattle.scribe.specs.Contract.{NumbersOfText};
 
 // Where in the text the reader stands: between numbers, in a comment, or inside a number whose digits so far are worth this.
 pub enum Mark {
@@ -134,8 +134,7 @@ fn byte_at(text: &[u8], i: usize) -> u8
 // Reads a text's numbers over the front of a lent list: their count, or what is wrong with the text and in which line. Entries past the
 // numbers read stay. A number for which the list has no room is wrong, so that a list of i numbers tells the line of the number behind them.
 pub fn numbers_of_text(text: &[u8], numbers: &mut [u32]) -> Scribed
-    ensures gives { λ r. ⌜ r ≡ givesText (textOf (length (now (numbers .entry))) (now (text .entry))) ⌝ }
-    ensures holds { λ _. ⌜ now (numbers .exit) ≡ sets (now (numbers .entry)) 0 (numbersIn (textOf (length (now (numbers .entry))) (now (text .entry)))) ⌝ }
+    ensures { λ r. ⌜ NumbersOfText (now (text .entry)) (now (numbers .entry)) r (now (numbers .exit)) ⌝ }
 {
     let mut mark = Mark::Between;
     let mut line: usize = 1;

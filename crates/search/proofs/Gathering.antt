@@ -9,7 +9,7 @@ use lib.ListN.{length, take, drop, set, length-set, length-map, drop-of-length-l
 use lib.Seq.{take-suc-set}
 use Rattle.curves.specs.declared.Stage.{Stage}
 use Rattle.curves.specs.Held.{Holds}
-use Rattle.row.specs.declared.Server.{Server}
+use Rattle.tandem.specs.declared.Server.{Server}
 use Rattle.tree.specs.Amounts.{sumOf}
 use Rattle.tree.specs.PruneLaws.{latenciesOf}
 use Rattle.keys.specs.Left.{rowCurve}

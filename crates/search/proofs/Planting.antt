@@ -1,26 +1,15 @@
 -- A row's flows planted one by one in a list of numbers: each that is planted stays, and all of them in order are the row's.
 -- Assumes nothing.
-use mathlib.Core.Path.{_≡_, refl, sym, ap, _∙_}
+use mathlib.Core.Path.{_≡_, _∙_}
 use mathlib.Core.Logic.{_⊎_, inl, inr}
-use mathlib.Core.List.{List, [], _∷_, _++_}
-use Prim.Native.Nat.{ℕ, zero, suc, _+_, _*_, _≤_, _<_}
+use mathlib.Core.List.{List}
+use Prim.Native.Nat.{ℕ, _+_, _*_, _≤_, _<_}
 use native.Mathlib.Omega.{arith}
-use lib.ListN.{length, getD, set, take, length-set}
-use lib.Seq.{take-suc, getD-set-same, getD-set-other}
-use Rattle.curves.specs.SlotsLaws.{le-or-lt}
-use Rattle.row.specs.declared.Flow.{Flow}
-use Rattle.row.specs.OfSheet.{listed}
-use Rattle.climb.specs.Flows.{flowAt}
-
--- values that are a list's first n, in order
-pub listed-take : {B : Type 0} (n : ℕ) (f : ℕ → B) (l : List B) (d : B)
-    → n ≤ length l → ((m : ℕ) → m < n → f m ≡ getD l m d) → listed n f ≡ take n l
-unfolding listed
-listed-take zero f l d h e = refl
-listed-take (suc n) f l d h e =
-    let r : listed n f ≡ take n l = listed-take n f l d (omega arith) (λ m k. e m (omega arith)) in
-    let v : f n ≡ getD l n d = e n (omega arith) in
-    ap (λ (x : List _). x ++ (f n ∷ [])) r ∙ ap (λ (x : _). take n l ++ (x ∷ [])) v ∙ sym (take-suc l n d h)
+use lib.ListN.{length, getD, set, length-set}
+use lib.Seq.{getD-set-same, getD-set-other}
+use Rattle.ground.specs.OrderLaws.{le-or-lt}
+use Rattle.tandem.specs.declared.Flow.{Flow}
+use Rattle.tandem.specs.Lent.{lentFlow}
 
 -- the four numbers of a flow, stored from place 4 * k on
 abbrev pub planted : List ℕ → ℕ → Flow → List ℕ
@@ -42,7 +31,7 @@ planted-other xs k v j h =
     ∙ getD-set-other xs (4 * k) j (v .first) 0 (λ q. omega arith)
 
 -- the flow planted at k
-planted-same : (xs : List ℕ) (k : ℕ) (v : Flow) → 4 * k + 3 < length xs → flowAt (planted xs k v) k ≡ v
+planted-same : (xs : List ℕ) (k : ℕ) (v : Flow) → 4 * k + 3 < length xs → lentFlow (planted xs k v) k ≡ v
 planted-same xs k v h =
     let a = set xs (4 * k) (v .first) in
     let b = set a (4 * k + 1) (v .last) in
@@ -68,11 +57,11 @@ planted-same xs k v h =
 -- a flow is planted at place k
 pub plant-flow : (xs : List ℕ) (k : ℕ) (gs : List Flow) (d v : Flow)
     → 4 * k + 3 < length xs → v ≡ getD gs k d
-    → ((m : ℕ) → m < k → flowAt xs m ≡ getD gs m d)
-    → (m : ℕ) → m < k + 1 → flowAt (planted xs k v) m ≡ getD gs m d
+    → ((m : ℕ) → m < k → lentFlow xs m ≡ getD gs m d)
+    → (m : ℕ) → m < k + 1 → lentFlow (planted xs k v) m ≡ getD gs m d
 plant-flow xs k gs d v h e inv m l = go (le-or-lt k m)
   where
-    go : (k ≤ m) ⊎ (m < k) → flowAt (planted xs k v) m ≡ getD gs m d
+    go : (k ≤ m) ⊎ (m < k) → lentFlow (planted xs k v) m ≡ getD gs m d
     go (inl j) = let q : m ≡ k = omega arith in rw q (planted-same xs k v h ∙ e)
     go (inr j) =
         rw (planted-other xs k v (4 * m) (omega arith), planted-other xs k v (4 * m + 1) (omega arith), planted-other xs k v (4 * m + 2) (omega arith), planted-other xs k v (4 * m + 3) (omega arith)) (inv m j)

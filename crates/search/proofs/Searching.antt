@@ -12,11 +12,12 @@ use lib.Seq.{take-all, take-at, getD-take, length-take-le}
 use Rattle.curves.specs.declared.Curve.{Curve}
 use Rattle.curves.specs.Curve.{Shape, Rates}
 use Rattle.curves.specs.Held.{Holds}
-use Rattle.row.specs.declared.Server.{Server}
-use Rattle.row.specs.declared.Flow.{Flow}
+use Rattle.tandem.specs.declared.Server.{Server}
+use Rattle.tandem.specs.declared.Flow.{Flow}
 use Rattle.row.specs.declared.Row.{Row}
-use Rattle.row.specs.OfSheet.{listed, padded}
-use Rattle.row.specs.OfSheetLaws.{listed-at}
+use Rattle.tandem.specs.OfSheet.{listed}
+use Rattle.row.specs.RowFor.{padded}
+use Rattle.tandem.specs.OfSheetLaws.{listed-at}
 use Rattle.tree.specs.Plan.{Node, plan}
 use Rattle.tree.specs.Planned.{noFlow, answerOf}
 use Rattle.tree.specs.Fine.{AllFine}
@@ -25,8 +26,9 @@ use Rattle.tree.specs.PruneLaws.{latenciesOf}
 use Rattle.tree.specs.Ordered.{Placed, Ordered, Workable}
 use Rattle.tree.specs.NodeLaws.{plan-length}
 use Rattle.tree.specs.Grid.{Answer, foundOf}
-use Rattle.tree.specs.Searched.{Each}
-use Rattle.tree.specs.GridLaws.{each-append, each-map, zeros-below, quick-is}
+use Rattle.ground.specs.Each.{Each}
+use Rattle.ground.specs.EachLaws.{each-append, each-map}
+use Rattle.tree.specs.GridLaws.{zeros-below, quick-is}
 use Rattle.keys.specs.Keys.{leastOf}
 use Rattle.keys.specs.Numbers.{pointAt, firstDigits}
 use Rattle.keys.specs.NumberLaws.{first-digits-stand}
@@ -39,7 +41,7 @@ use Rattle.keys.specs.UseLaws.{point-length, point-zero, point-fine, small-row}
 use Rattle.grid.specs.declared.Steps.{Steps}
 use Rattle.grid.specs.Steps.{stepAt, stepsIn, digitsOf}
 use Rattle.grid.specs.StepsLaws.{steps-le, digits-held, values-low, second-step}
-use Rattle.climb.specs.Flows.{flowAt, flowsIn}
+use Rattle.tandem.specs.Lent.{lentFlow, flowsIn}
 use Rattle.climb.specs.declared.Branch.{Branch}
 use Rattle.climb.specs.Branch.{stateOf, watchedIn, groupsIn}
 use Rattle.climb.specs.Choosing.{Stepped, leastKey, Ready}
@@ -48,7 +50,7 @@ use Rattle.point.specs.Point.{serversOf, flowsOf, answerAt, extrasOf, pointOf}
 use Rattle.search.specs.declared.Found.{Found}
 use Rattle.search.specs.Point.{searched}
 use Rattle.search.specs.Searchable.{startOf, Searchable, foundIn}
-use Rattle.search.proofs.Planting.{listed-take}
+use Rattle.tandem.specs.LentLaws.{listed-take}
 
 take-zeros : (n m : ℕ) → n ≤ m → take {A = ℕ} n (replicate m 0) ≡ replicate n 0
 take-zeros zero m p = refl
@@ -246,11 +248,11 @@ module _ (row : Row) (ok : Searchable row) where
         pub lent-long : length lent ≡ 4 * row .count
         lent-long = length-take-le (4 * row .count) xs (omega (arith, few, long))
 
-        lent-at : (k : ℕ) → k < row .count → flowAt lent k ≡ getD fs k noFlow
+        lent-at : (k : ℕ) → k < row .count → lentFlow lent k ≡ getD fs k noFlow
         lent-at k h =
             let t : (j : ℕ) → j < 4 * row .count → getD lent j 0 ≡ getD xs j 0 = λ j l. getD-take (4 * row .count) xs j 0 l in
             rw (t (4 * k) (omega arith), t (4 * k + 1) (omega arith), t (4 * k + 2) (omega arith), t (4 * k + 3) (omega arith))
-            (sym (listed-at (row .count) (flowAt xs) k noFlow h) ∙ ap (λ (l : List Flow). getD l k noFlow) flows)
+            (sym (listed-at (row .count) (lentFlow xs) k noFlow h) ∙ ap (λ (l : List Flow). getD l k noFlow) flows)
 
         watched-is : watchedIn lent ≡ w
         watched-is = lent-at 0 (omega (arith, ok .shaped .some))
@@ -258,8 +260,8 @@ module _ (row : Row) (ok : Searchable row) where
         groups-in : groupsIn lent ≡ gs
         groups-in =
             let m : length lent / 4 - 1 ≡ n = omega (arith, lent-long) in
-            ap (λ (k : ℕ). listed k (λ i. flowAt lent (suc i))) m
-            ∙ listed-take n (λ i. flowAt lent (suc i)) gs noFlow (omega (arith, groups-are)) (λ i h. lent-at (suc i) (omega arith) ∙ behind-first fs i)
+            ap (λ (k : ℕ). listed k (λ i. lentFlow lent (suc i))) m
+            ∙ listed-take n (λ i. lentFlow lent (suc i)) gs noFlow (omega (arith, groups-are)) (λ i h. lent-at (suc i) (omega arith) ∙ behind-first fs i)
             ∙ take-all n gs (omega (arith, groups-are))
 
         -- the branch with which the recursion begins

@@ -8,9 +8,9 @@ use Prim.Native.Nat.{ℕ, suc, _+_, _-_, _*_, _≤_, _<_, _^_}
 use native.Mathlib.Numerals.{add-one}
 use native.Mathlib.Omega.{arith}
 use lib.ListN.{length, getD, drop, set, replicate, getD-replicate, drop-of-length-le, List·getD-eq-default}
-use Rattle.row.specs.Sums.{weigh}
-use Rattle.row.specs.declared.Flow.{Flow}
-use Rattle.row.specs.TestLaws.{le-or-lt}
+use Rattle.tandem.specs.Sums.{weigh}
+use Rattle.tandem.specs.declared.Flow.{Flow}
+use Rattle.ground.specs.OrderLaws.{le-or-lt}
 use Rattle.curves.specs.Part.{changed}
 use Rattle.curves.specs.PartLaws.{changed-inside, changed-outside, changed-length, changed-more}
 use Rattle.keys.specs.Left.{passes, burstsOn}

@@ -5,8 +5,8 @@ use mathlib.Core.List.{List}
 use Prim.Native.Nat.{ℕ, _-_, _≤_, _<_, _^_}
 use lib.ListN.{length, getD, replicate}
 use Rattle.row.specs.declared.Row.{Row}
-use Rattle.row.specs.OfSheet.{padded}
-use Rattle.tree.specs.Searched.{Each}
+use Rattle.row.specs.RowFor.{padded}
+use Rattle.ground.specs.Each.{Each}
 use Rattle.tree.specs.Amounts.{sumOf}
 use Rattle.tree.specs.PruneLaws.{latenciesOf}
 use Rattle.tree.specs.Grid.{Answer}

@@ -7,15 +7,16 @@ ghost use Rattle.curves.specs.Held.{Holds};
 ghost use Rattle.tree.specs.Amounts.{sumOf};
 ghost use Rattle.tree.specs.PruneLaws.{latenciesOf};
 ghost use Rattle.tree.specs.Planned.{noFlow};
-ghost use Rattle.tree.specs.Searched.{Each};
+ghost use Rattle.ground.specs.Each.{Each};
 ghost use Rattle.curves.specs.Part.{changed};
 ghost use Rattle.keys.specs.Left.{rowCurve, burstsOn};
 ghost use Rattle.keys.specs.Numbers.{pointAt};
 ghost use Rattle.point.specs.Point.{serversOf, flowsOf, answerAt, Shaped};
-ghost use Rattle.climb.specs.Flows.{flowsIn};
+ghost use Rattle.tandem.specs.Lent.{flowsIn};
 ghost use Rattle.grid.specs.Steps.{stepAt, stepsIn};
 ghost use Rattle.search.specs.Point.{searched};
-ghost use Rattle.search.specs.Searchable.{startOf, Searchable, foundIn};
+ghost use Rattle.search.specs.Searchable.{startOf, Searchable};
+ghost use Rattle.search.specs.Contract.{Search};
 use climb::Branch;
 use curves::Curve;
 use curves::Stage;
@@ -142,7 +143,7 @@ fn found_at(start: u64, p: Point) -> Found
 // The search of a row: the first point of its grid with the least delay; in mode 1 the point with no extras.
 pub fn search(row: Row) -> Found
     requires { ⌜ Searchable row ⌝ }
-    ensures { λ r. ⌜ r ≡ foundIn (searched row .start) (searched row .best) ⌝ }
+    ensures { λ r. ⌜ Search row r ⌝ }
 {
     let none = [0u64; 32];
     let first = point::evaluate(row, none);

@@ -9,29 +9,33 @@ use lib.ListN.{length, take, drop, set, length-set}
 use lib.Seq.{take-suc-set, length-take-le}
 use borrow.Author.Tests.{lt-ltb, le-ltb}
 use Rattle.numbers.specs.Seven.{numberAt}
-use Rattle.sheet.specs.declared.Seen.{Seen}
-use Rattle.sheet.specs.declared.Step.the-variants.{Value}
-use Rattle.sheet.specs.declared.Outcome.{Outcome}
-use Rattle.sheet.specs.declared.Outcome.the-variants.{Done, Refused}
-use Rattle.sheet.specs.declared.Why.{Why}
-use Rattle.sheet.specs.declared.Why.the-variants.{Short}
-use Rattle.sheet.specs.Rule.{most, ruleAt, seenAfter}
-use Rattle.sheet.specs.Sheet.{Found, fail, these, stepOn, sheetOf, nothing, readGives, readHolds}
+use Rattle.fields.specs.declared.User.the-variants.{Reader}
+use Rattle.fields.specs.declared.Cursor.{Cursor}
+use Rattle.fields.specs.declared.Step.the-variants.{Value}
+use Rattle.fields.specs.declared.Outcome.{Outcome}
+use Rattle.fields.specs.declared.Outcome.the-variants.{Done, Refused}
+use Rattle.fields.specs.declared.Why.{Why}
+use Rattle.fields.specs.declared.Why.the-variants.{Short}
+use Rattle.fields.specs.Rule.{most, nothing}
+use Rattle.fields.specs.Cursor.{cursorAt, cursorAfter}
+use Rattle.fields.specs.Step.{stepOn}
+use Rattle.sheet.specs.Sheet.{Found, fail, these, sheetOf}
 use Rattle.sheet.specs.Inside.{found, countOf}
+use Rattle.sheet.specs.Contract.{ReadSheet}
 use Rattle.sheet.proofs.Walking.{Walking, begin, room, turn}
 
-pub record Reading (bytes values : List ℕ) (e : Seen) (at i : ℕ) : Type 0 where
-  pub walking : Walking (numberAt bytes) (length bytes) (sheetOf bytes) (take i values) e at i
+pub record Reading (bytes values : List ℕ) (cursor : Cursor) (at i : ℕ) : Type 0 where
+  pub walking : Walking Reader (numberAt bytes) (length bytes) (sheetOf bytes) (take i values) cursor at i
   pub long : length values ≡ most
 
-pub begin-reading : (bytes values : List ℕ) → length values ≡ most → Reading bytes values nothing 0 0
+pub begin-reading : (bytes values : List ℕ) → length values ≡ most → Reading bytes values (cursorAt Reader 0 nothing) 0 0
 unfolding sheetOf
-begin-reading bytes values h = record { walking = begin (numberAt bytes) (length bytes); long = h }
+begin-reading bytes values h = record { walking = begin Reader (numberAt bytes) (length bytes); long = h }
 
-pub turn-reading : {bytes values : List ℕ} {e : Seen} {at i : ℕ} → (x next : ℕ) → Reading bytes values e at i
-    → stepOn (numberAt bytes at) (length bytes) at (ruleAt i e) ≡ Value x next
-    → Reading bytes (set values i x) (seenAfter e i x) next (i + 1)
-turn-reading {bytes} {values} {e} {at} {i} x next g t =
+pub turn-reading : {bytes values : List ℕ} {cursor : Cursor} {at i : ℕ} → (x next : ℕ) → Reading bytes values cursor at i
+    → stepOn (numberAt bytes at) (length bytes) at (cursor .rule) ≡ Value x next
+    → Reading bytes (set values i x) (cursorAfter Reader cursor x) next (i + 1)
+turn-reading {bytes} {values} {cursor} {at} {i} x next g t =
     let b : i < most = room x next (g .walking) t in
     record {
       walking = rw (add-one i, take-suc-set values i x (omega (arith, g .long)), ← add-one i) (turn x next (g .walking) t);
@@ -49,16 +53,19 @@ whole f a xs n e h l q =
     let few : n ≤ most = rw q at h in
     record { is = sym e ∙ rw q; count = length-take-le n xs (omega arith); few = few }
 
-pub short : (f : Found) (ys : List ℕ) (n : ℕ) (list : List ℕ) → Whole f ys n → length list < n
-    → (Refused Short n ≡ readGives f (length list)) × (list ≡ readHolds f list)
-short f ys n list w h = (rw (w .is, w .count, lt-ltb (length list) n h), rw (w .is, w .count, lt-ltb (length list) n h))
+pub short : (bytes ys : List ℕ) (n : ℕ) (list : List ℕ) → Whole (sheetOf bytes) ys n → length list < n → ReadSheet bytes list (Refused Short n) list
+short bytes ys n list w h =
+    let l = lt-ltb (length list) n h in
+    record { gives = rw (w .is, w .count, l); holds = rw (w .is, w .count, l) }
 
-pub full : (f : Found) (ys : List ℕ) (n : ℕ) (list : List ℕ) → Whole f ys n → n ≤ length list
-    → (Done n ≡ readGives f (length list)) × (ys ++ drop n list ≡ readHolds f list)
-full f ys n list w h = (rw (w .is, w .count, le-ltb (length list) n h), rw (w .is, w .count, le-ltb (length list) n h))
+pub full : (bytes ys : List ℕ) (n : ℕ) (list after : List ℕ) → Whole (sheetOf bytes) ys n → n ≤ length list → after ≡ ys ++ drop n list
+    → ReadSheet bytes list (Done n) after
+full bytes ys n list after w h e =
+    let l = le-ltb (length list) n h in
+    record { gives = rw (w .is, w .count, l); holds = e ∙ rw (w .is, w .count, l) }
 
-pub stopped : (f : Found) (a : Outcome) (xs : List ℕ) (w : Why) (d : ℕ) (list : List ℕ) → found a xs ≡ f → a ≡ Refused w d
-    → (Refused w d ≡ readGives f (length list)) × (list ≡ readHolds f list)
-stopped f a xs w d list e q =
-    let is : f ≡ fail w d = sym e ∙ rw q in
-    (rw is, rw is)
+pub stopped : (bytes : List ℕ) (a : Outcome) (xs : List ℕ) (w : Why) (d : ℕ) (list : List ℕ) → found a xs ≡ sheetOf bytes → a ≡ Refused w d
+    → ReadSheet bytes list (Refused w d) list
+stopped bytes a xs w d list e q =
+    let is : sheetOf bytes ≡ fail w d = sym e ∙ rw q in
+    record { gives = rw is; holds = rw is }

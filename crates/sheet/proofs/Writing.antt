@@ -1,6 +1,6 @@
 -- The writer's two loops: while it checks its list, and while it writes the bytes. And what the writer gives and leaves.
 -- Assumes nothing.
-use Prim.Native.Nat.{ℕ, zero, suc, _+_, _*_, _≤_, _<_}
+use Prim.Native.Nat.{ℕ, suc, _+_, _*_, _≤_, _<_}
 use mathlib.Core.Path.{_≡_, refl, sym, ap, _∙_}
 use mathlib.Core.List.{List, [], _∷_, _++_}
 use native.Mathlib.Nat.{add-zero, zero-add}
@@ -11,41 +11,47 @@ use lib.Seq.{sets, length-sets, sets-eq, take-suc, take-all}
 use borrow.Author.Tests.{lt-ltb, le-ltb}
 use Rattle.numbers.specs.Seven.{encode}
 use Rattle.numbers.specs.SevenLaws.{encode-few}
-use Rattle.sheet.specs.declared.Seen.{Seen}
-use Rattle.sheet.specs.declared.Step.the-variants.{Value, Stop, End}
-use Rattle.sheet.specs.declared.Outcome.{Outcome}
-use Rattle.sheet.specs.declared.Outcome.the-variants.{Done, Refused}
-use Rattle.sheet.specs.declared.Why.{Why}
-use Rattle.sheet.specs.declared.Why.the-variants.{Short}
-use Rattle.sheet.specs.Rule.{ruleAt, seenAfter}
-use Rattle.sheet.specs.Sheet.{Found, fail, these, stepOn, entryAt, listOf, nothing, encodeAll, writeGives, writeHolds}
+use Rattle.fields.specs.declared.User.the-variants.{Writer}
+use Rattle.fields.specs.declared.Rule.{Rule}
+use Rattle.fields.specs.declared.Cursor.{Cursor}
+use Rattle.fields.specs.declared.Step.the-variants.{Value, End}
+use Rattle.fields.specs.declared.Outcome.{Outcome}
+use Rattle.fields.specs.declared.Outcome.the-variants.{Done, Refused}
+use Rattle.fields.specs.declared.Why.{Why}
+use Rattle.fields.specs.declared.Why.the-variants.{Short}
+use Rattle.fields.specs.Rule.{nothing}
+use Rattle.fields.specs.Cursor.{cursorAt, cursorAfter}
+use Rattle.fields.specs.Step.{stepOn}
+use Rattle.sheet.specs.Sheet.{Found, fail, these, entryAt, listOf, encodeAll, writeGives, writeHolds}
 use Rattle.sheet.specs.Inside.{checked}
-use Rattle.sheet.specs.StepLaws.{Gave, step-gave, Entry, entry-was}
+use Rattle.sheet.specs.Contract.{WriteSheet}
+use Rattle.fields.specs.StepLaws.{Gave, step-gave}
+use Rattle.sheet.specs.EntryLaws.{Entry, entry-was}
 use Rattle.sheet.specs.EncodeLaws.{encode-next, length-next}
 use Rattle.sheet.specs.WalkLaws.{list-whole}
 use Rattle.sheet.proofs.Walking.{Walking, begin, turn, finished}
 
 -- the check: the numbers passed are the front of the list, and their bytes are counted
-pub record Listing (xs : List ℕ) (e : Seen) (i total : ℕ) : Type 0 where
-  pub walking : Walking (entryAt xs) (length xs) (listOf xs) (take i xs) e i i
+pub record Listing (xs : List ℕ) (cursor : Cursor) (i total : ℕ) : Type 0 where
+  pub walking : Walking Writer (entryAt xs) (length xs) (listOf xs) (take i xs) cursor i i
   pub count : total ≡ length (encodeAll (take i xs))
   pub cap : total ≤ 5 * i
 
-pub begin-listing : (xs : List ℕ) → Listing xs nothing 0 0
+pub begin-listing : (xs : List ℕ) → Listing xs (cursorAt Writer 0 nothing) 0 0
 unfolding listOf
-begin-listing xs = record { walking = begin (entryAt xs) (length xs); count = refl; cap = omega arith }
+begin-listing xs = record { walking = begin Writer (entryAt xs) (length xs); count = refl; cap = omega arith }
 
-pub listed : {xs : List ℕ} {e : Seen} {i total : ℕ} (x next : ℕ) → Listing xs e i total → stepOn (entryAt xs i) (length xs) i (ruleAt i e) ≡ Value x next → Entry xs i x next
-listed {xs} {e} {i} {total} x next g t =
-    let v : Gave (entryAt xs i) (ruleAt i e) x next = step-gave (entryAt xs i) (length xs) i (ruleAt i e) x next t in
+pub listed : (xs : List ℕ) (rule : Rule) (i x next : ℕ) → stepOn (entryAt xs i) (length xs) i rule ≡ Value x next → Entry xs i x next
+listed xs rule i x next t =
+    let v : Gave (entryAt xs i) rule x next = step-gave (entryAt xs i) (length xs) i rule x next t in
     entry-was xs i x next (v .read)
 
-pub turn-listing : {xs : List ℕ} {e : Seen} {i total : ℕ} (x next : ℕ) → Listing xs e i total
-    → stepOn (entryAt xs i) (length xs) i (ruleAt i e) ≡ Value x next → Listing xs (seenAfter e i x) next (total + length (encode x))
-turn-listing {xs} {e} {i} {total} x next g t =
-    let k : Entry xs i x next = listed x next g t in
+pub turn-listing : {xs : List ℕ} {cursor : Cursor} {i total : ℕ} (x next : ℕ) → Listing xs cursor i total
+    → stepOn (entryAt xs i) (length xs) i (cursor .rule) ≡ Value x next → Listing xs (cursorAfter Writer cursor x) next (total + length (encode x))
+turn-listing {xs} {cursor} {i} {total} x next g t =
+    let k : Entry xs i x next = listed xs (cursor .rule) i x next t in
     let f : take (i + 1) xs ≡ take i xs ++ (x ∷ []) = rw (add-one i, take-suc xs i 0 (k .inside), k .value) in
-    let w : Walking (entryAt xs) (length xs) (listOf xs) (take (i + 1) xs) (seenAfter e i x) next (i + 1) = rw f (turn x next (g .walking) t) in
+    let w : Walking Writer (entryAt xs) (length xs) (listOf xs) (take (i + 1) xs) (cursorAfter Writer cursor x) next (i + 1) = rw f (turn x next (g .walking) t) in
     rw (k .place)
     (record {
       walking = rw (k .place) at w;
@@ -53,9 +59,9 @@ turn-listing {xs} {e} {i} {total} x next g t =
       cap = omega (arith, g .cap, encode-few x);
     })
 
-pub finished-listing : {xs : List ℕ} {e : Seen} {i total : ℕ} → Listing xs e i total → stepOn (entryAt xs i) (length xs) i (ruleAt i e) ≡ End
+pub finished-listing : {xs : List ℕ} {cursor : Cursor} {i total : ℕ} → Listing xs cursor i total → stepOn (entryAt xs i) (length xs) i (cursor .rule) ≡ End
     → Done total ≡ checked (listOf xs)
-finished-listing {xs} {e} {i} {total} g t = rw (finished (g .walking) t, g .count)
+finished-listing {xs} {cursor} {i} {total} g t = rw (finished (g .walking) t, g .count)
 
 -- the width of a list: the bytes of the numbers passed are counted
 pub record Counting (xs : List ℕ) (i total : ℕ) : Type 0 where
@@ -122,21 +128,23 @@ sized xs n r e q =
     let y : a .0 ≡ xs = list-whole xs (a .0) (a .1 .0) in
     record { is = a .1 .0 ∙ ap these y; count = a .1 .1 ∙ ap (λ (l : List ℕ). length (encodeAll l)) y }
 
-pub short-writing : (xs : List ℕ) (n : ℕ) (buf : List ℕ) → Sized xs n → length buf < n
-    → (Refused Short n ≡ writeGives (listOf xs) (length buf)) × (buf ≡ writeHolds (listOf xs) buf)
+pub short-writing : (xs : List ℕ) (n : ℕ) (buf : List ℕ) → Sized xs n → length buf < n → WriteSheet xs buf (Refused Short n) buf
 short-writing xs n buf w h =
     let l = lt-ltb (length buf) n h in
-    (rw (w .is, ← w .count, l), rw (w .is, ← w .count, l))
+    record { gives = rw (w .is, ← w .count, l); holds = rw (w .is, ← w .count, l) }
 
-pub full-writing : (xs : List ℕ) (n : ℕ) (buf : List ℕ) → Sized xs n → n ≤ length buf
-    → (Done n ≡ writeGives (listOf xs) (length buf)) × (sets buf 0 (encodeAll xs) ≡ writeHolds (listOf xs) buf)
-full-writing xs n buf w h =
+pub full-writing : (xs : List ℕ) (n : ℕ) (buf after : List ℕ) → Sized xs n → n ≤ length buf → after ≡ sets buf 0 (encodeAll xs)
+    → WriteSheet xs buf (Done n) after
+full-writing xs n buf after w h e =
     let l = le-ltb (length buf) n h in
-    (rw (w .is, ← w .count, l), rw (w .is, ← w .count, l) (sets-eq (encodeAll xs) buf 0 (omega (arith, w .count)) ∙ rw (zero-add, ← w .count)))
+    record {
+      gives = rw (w .is, ← w .count, l);
+      holds = e ∙ rw (w .is, ← w .count, l) (sets-eq (encodeAll xs) buf 0 (omega (arith, w .count)) ∙ rw (zero-add, ← w .count));
+    }
 
 pub stopped-writing : (xs : List ℕ) (r : Outcome) (w : Why) (d : ℕ) (buf : List ℕ) → r ≡ checked (listOf xs) → r ≡ Refused w d
-    → (Refused w d ≡ writeGives (listOf xs) (length buf)) × (buf ≡ writeHolds (listOf xs) buf)
-stopped-writing xs r w d buf e q = stopped-by (listOf xs) (sym q ∙ e)
+    → WriteSheet xs buf (Refused w d) buf
+stopped-writing xs r w d buf e q = let t = stopped-by (listOf xs) (sym q ∙ e) in record { gives = t .0; holds = t .1 }
   where
     stopped-by : (f : Found) → Refused w d ≡ checked f → (Refused w d ≡ writeGives f (length buf)) × (buf ≡ writeHolds f buf)
     stopped-by (fail w′ d′) e = (e, refl)

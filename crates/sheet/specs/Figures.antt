@@ -7,11 +7,12 @@ use mathlib.Core.List.{List, [], _∷_, _++_, map}
 use native.Mathlib.Omega.{arith}
 use lib.ListN.{length, take, drop}
 use Rattle.numbers.specs.Seven.{encode, numberAt}
-use Rattle.sheet.specs.declared.Outcome.{Outcome}
-use Rattle.sheet.specs.declared.Why.the-variants.{Left}
-use Rattle.sheet.specs.Rule.{most, serverNumbers, ruleAt, seenAfter}
-use Rattle.sheet.specs.Refusal.{refusal, number, detail}
-use Rattle.sheet.specs.Sheet.{Found, fail, these, stepOn, sheetOf, listOf, encodeAll, readGives, readHolds, writeGives, writeHolds}
+use Rattle.fields.specs.declared.Outcome.{Outcome}
+use Rattle.fields.specs.declared.Why.the-variants.{Left}
+use Rattle.fields.specs.Rule.{most, fieldAt, ruleAt, seenAfter}
+use Rattle.fields.specs.Refusal.{refusal, number, detail}
+use Rattle.fields.specs.Step.{stepOn}
+use Rattle.sheet.specs.Sheet.{Found, fail, these, sheetOf, listOf, encodeAll, readGives, readHolds, writeGives, writeHolds}
 use Rattle.sheet.specs.Valid.{Valid}
 use Rattle.sheet.specs.ValidLaws.{listed-valid}
 use Rattle.sheet.specs.TripLaws.{Words}
@@ -53,7 +54,7 @@ table =
     ∷ []
 
 pub table-read : map (λ (e : Example). answers (sheetOf (e .bytes))) table ≡ map (λ (e : Example). e .says) table
-unfolding sheetOf stepOn ruleAt seenAfter serverNumbers numberAt
+unfolding sheetOf stepOn ruleAt fieldAt seenAfter numberAt
 table-read = refl
 
 -- the writer's: "the bytes (writer: the numbers) end before the last field does", "bytes (numbers) left over"; its "offsets count numbers"
@@ -63,7 +64,7 @@ pub lists-written :
     × (answers (listOf (take 12 P7)) ≡ 1 ∷ 12 ∷ [])
     × (answers (listOf (P7 ++ (9 ∷ 9 ∷ []))) ≡ 3 ∷ 13 ∷ [])
     × (answers (listOf (1 ∷ 1 ∷ 300 ∷ 0 ∷ 1 ∷ 2 ∷ [])) ≡ 5 ∷ 5 ∷ [])
-unfolding listOf stepOn ruleAt seenAfter serverNumbers
+unfolding listOf stepOn ruleAt fieldAt seenAfter
 lists-written = (refl, refl, refl, refl, refl)
 
 -- "10 | the buffer is too short | length needed": one entry short, and just long enough; a refusal of the sheet comes before it
@@ -95,7 +96,7 @@ buffers = (refl, refl, refl, refl, refl, refl, refl, refl)
 
 -- so there are valid lists
 pub P7-valid : Valid P7
-unfolding listOf stepOn ruleAt seenAfter serverNumbers
+unfolding listOf stepOn ruleAt fieldAt seenAfter
 P7-valid = listed-valid P7 P7 refl
 
 -- "a list of numbers in sheet order, each below 2^32": what the round trips ask of a list holds of every such number
@@ -119,7 +120,7 @@ unfolding encode
 greatest-bytes = refl
 
 pub greatest-read : sheetOf (encodeAll greatest) ≡ these greatest
-unfolding sheetOf stepOn ruleAt seenAfter serverNumbers numberAt encode
+unfolding sheetOf stepOn ruleAt fieldAt seenAfter numberAt encode
 greatest-read = refl
 
 -- The ranges, by their ends: every number at the bottom of its range is read, as every one at the top is; one below or above is refused.
@@ -127,7 +128,7 @@ abbrev pub least : List ℕ
 least = 1 ∷ 1 ∷ 1 ∷ 0 ∷ 1 ∷ 1 ∷ 1 ∷ 0 ∷ 1 ∷ 0 ∷ 1 ∷ 0 ∷ 0 ∷ []
 
 pub least-read : sheetOf (encodeAll least) ≡ these least
-unfolding sheetOf stepOn ruleAt seenAfter serverNumbers numberAt encode
+unfolding sheetOf stepOn ruleAt fieldAt seenAfter numberAt encode
 least-read = refl
 
 -- one number of a list put in place of another: the list, the place, the number, and its refusal
@@ -163,5 +164,5 @@ ends =
 
 -- of the writer, whose "offsets count numbers"; the reader has the same rule at each place (`ruleAt`)
 pub ends-refused : map (λ (o : Outside). answers (listOf (changed o))) ends ≡ map (λ (o : Outside). o .refusal ∷ o .place ∷ []) ends
-unfolding listOf stepOn ruleAt seenAfter serverNumbers
+unfolding listOf stepOn ruleAt fieldAt seenAfter
 ends-refused = refl

@@ -3,8 +3,8 @@
 use Prim.Native.Nat.{ℕ}
 use mathlib.Core.List.{List}
 use lib.ListN.{length, take}
-use Rattle.sheet.specs.declared.Outcome.{Outcome}
-use Rattle.sheet.specs.declared.Outcome.the-variants.{Done, Refused}
+use Rattle.fields.specs.declared.Outcome.{Outcome}
+use Rattle.fields.specs.declared.Outcome.the-variants.{Done, Refused}
 use Rattle.sheet.specs.Sheet.{Found, fail, these, encodeAll}
 
 -- an answer beside a list whose front holds the numbers

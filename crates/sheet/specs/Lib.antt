@@ -1,8 +1,8 @@
-pub mod Rule
-pub mod Refusal
 pub mod Sheet
 pub mod Inside
-pub mod StepLaws
+pub mod Contract
+pub mod Unique
+pub mod EntryLaws
 pub mod WalkLaws
 pub mod EncodeLaws
 pub mod Valid
@@ -12,5 +12,6 @@ pub mod WordLaws
 pub mod AcceptLaws
 pub mod SizeLaws
 pub mod FrontLaws
-pub mod Unique
 pub mod Figures
+pub mod RoomLaws
+pub mod DetailLaws

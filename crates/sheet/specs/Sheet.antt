@@ -2,21 +2,22 @@
 -- Assumes nothing.
 use Prim.Native.Nat.{ℕ, zero, suc, _+_}
 use mathlib.Core.List.{List, [], _∷_, _++_}
-use mathlib.Core.Bool.{Bool, true, false, cond}
-use lib.ListN.{length, getD, take, drop}
+use mathlib.Core.Bool.{cond}
+use lib.ListN.{length, getD, drop}
 use lib.Dec.{ltb}
 use Rattle.numbers.specs.Seven.{numberAt, encode}
 use Rattle.numbers.specs.declared.Got.{Got}
 use Rattle.numbers.specs.declared.Got.the-variants as got
-use Rattle.sheet.specs.declared.Seen.{Seen}
-use Rattle.sheet.specs.declared.Rule.{Rule}
-use Rattle.sheet.specs.declared.Outcome.{Outcome}
-use Rattle.sheet.specs.declared.Outcome.the-variants.{Done, Refused}
-use Rattle.sheet.specs.declared.Why.{Why}
-use Rattle.sheet.specs.declared.Why.the-variants.{Ends, Padded, Large, Left, Outside, OffPath, Short}
-use Rattle.sheet.specs.declared.Step.{Step}
-use Rattle.sheet.specs.declared.Step.the-variants.{Value, Stop, End}
-use Rattle.sheet.specs.Rule.{most, ruleAt, allowed, whyOutside, isPast, seenAfter}
+use Rattle.fields.specs.declared.User.{User}
+use Rattle.fields.specs.declared.User.the-variants.{Reader, Writer}
+use Rattle.fields.specs.declared.Outcome.{Outcome}
+use Rattle.fields.specs.declared.Outcome.the-variants.{Done, Refused}
+use Rattle.fields.specs.declared.Why.{Why}
+use Rattle.fields.specs.declared.Why.the-variants.{Left, Short}
+use Rattle.fields.specs.declared.Step.{Step}
+use Rattle.fields.specs.declared.Step.the-variants.{Value, Stop, End}
+use Rattle.fields.specs.Rule.{most, Seen, nothing, ruleAt, seenAfter}
+use Rattle.fields.specs.Step.{stepOn}
 
 -- A refusal with its detail, or the numbers of a sheet.
 pub data Found : Type 0 where
@@ -27,38 +28,20 @@ abbrev pub also : ℕ → Found → Found
 also x (fail w d) = fail w d
 also x (these xs) = these (x ∷ xs)
 
--- Behind the last field: "bytes (numbers) left over", at the first of them, or the end of the sheet.
-abbrev pub endAt : ℕ → ℕ → Step
-endAt at size = cond (ltb at size) (Stop Left at) End
-
--- A number is read and then judged: "Order: field by field, 1 or 2 before 4 or 5".
-abbrev pub judged : Got → ℕ → Rule → Step
-judged (got.Number x next) at rule = cond (allowed rule x) (Value x next) (Stop (whyOutside rule) at)
-judged got.Ends at rule = Stop Ends at
-judged got.Padded at rule = Stop Padded at
-judged got.Large at rule = Stop Large at
-
--- One step at a place of a source with that size, from what was got there.
-unfoldable pub stepOn : Got → ℕ → ℕ → Rule → Step
-stepOn g size at rule = cond (isPast rule) (endAt at size) (judged g at rule)
-
 abbrev pub onStep : Step → (ℕ → ℕ → Found) → Found
 onStep (Value x next) go = go x next
 onStep (Stop w d) go = fail w d
 onStep End go = these []
 
--- Field by field, from a place on, where the number of place i of the sheet comes next; k steps are allowed.
-abbrev pub walk : (ℕ → Got) → ℕ → ℕ → ℕ → ℕ → Seen → Found
-walk source size zero at i e = fail Left at
-walk source size (suc k) at i e =
-    onStep (stepOn (source at) size at (ruleAt i e)) (λ x next. also x (walk source size k next (i + 1) (seenAfter e i x)))
-
-abbrev pub nothing : Seen
-nothing = record { edition = 0; servers = 0; flows = 0; prev = 0 }
+-- Field by field by a user's rule, from a place of the source on, where the number of place i of the sheet comes next; k steps are allowed.
+abbrev pub walk : User → (ℕ → Got) → ℕ → ℕ → ℕ → ℕ → Seen → Found
+walk user source size zero at i e = fail Left at
+walk user source size (suc k) at i e =
+    onStep (stepOn (source at) size at (ruleAt user i e)) (λ x next. also x (walk user source size k next (i + 1) (seenAfter e i x)))
 
 -- The reader: the numbers of a sheet's bytes, or its refusal. A sheet has at most `most` numbers, so one step more is all it takes.
 unfoldable pub sheetOf : List ℕ → Found
-sheetOf bytes = walk (numberAt bytes) (length bytes) (suc most) 0 0 nothing
+sheetOf bytes = walk Reader (numberAt bytes) (length bytes) (suc most) 0 0 nothing
 
 -- The writer: a list of numbers as a source, whose "offsets count numbers".
 abbrev pub entryAt : List ℕ → ℕ → Got
@@ -66,7 +49,7 @@ entryAt numbers i = cond (ltb i (length numbers)) (got.Number (getD numbers i 0)
 
 -- The same list where it is a sheet's, or its refusal.
 unfoldable pub listOf : List ℕ → Found
-listOf numbers = walk (entryAt numbers) (length numbers) (suc most) 0 0 nothing
+listOf numbers = walk Writer (entryAt numbers) (length numbers) (suc most) 0 0 nothing
 
 -- The bytes of a list of numbers.
 abbrev pub encodeAll : List ℕ → List ℕ

@@ -1,19 +1,20 @@
 -- "A valid sheet has at most 475 bytes." Each part of a sheet is a row of like pieces, and a piece takes at most so many bytes.
 -- Assumes nothing.
-use Prim.Native.Nat.{ℕ, zero, suc, _+_, _-_, _*_, _^_, _≤_, _<_}
-use mathlib.Core.Path.{_≡_, refl, sym, ap, _∙_}
-use mathlib.Core.Logic.{_⊎_, inl, inr, ⊎-elim}
-use mathlib.Core.List.{List, [], _∷_, _++_}
+use Prim.Native.Nat.{ℕ, zero, suc, _+_, _*_, _^_, _≤_, _<_}
+use mathlib.Core.Path.{_≡_, ap}
+use mathlib.Core.Logic.{_⊎_, ⊎-elim}
+use mathlib.Core.List.{List, [], _∷_}
 use native.Mathlib.Nat.{mul-zero, mul-suc}
 use native.Mathlib.Omega.{arith}
-use lib.ListN.{length, getD, take, drop, length-append, length-take, take-append-drop}
-use lib.Seq.{take-add, take-suc, take-all, getD-take, getD-drop, drop-drop}
-use Rattle.numbers.specs.Seven.{encode}
+use lib.ListN.{length, getD, take}
+use lib.Seq.{take-all}
 use Rattle.numbers.specs.SevenLaws.{encode-most, Bytes}
-use Rattle.sheet.specs.Sheet.{Found, these, sheetOf, encodeAll}
-use Rattle.sheet.specs.EncodeLaws.{encode-append, length-next}
-use Rattle.sheet.specs.Valid.{edition, serverCount, serverRate, serverLatency, flowCount, flowPlace, flowFirst, flowLast, flowBurst, flowRate, watchedPlace, watchedBurst, watchedRate, mode, grid, Within, Valid}
-use Rattle.sheet.specs.TripLaws.{write-back, read-valid}
+use Rattle.fields.specs.Rule.{perServer}
+use Rattle.sheet.specs.Sheet.{these, sheetOf, encodeAll}
+use Rattle.sheet.specs.EncodeLaws.{length-next}
+use Rattle.sheet.specs.Valid.{edition, serverCount, serverPlace, countPlace, flowCount, flowPlace, watchedPlace, grid, Within, Valid}
+use Rattle.sheet.specs.TripLaws.{write-back}
+use Rattle.sheet.specs.ValidLaws.{read-valid}
 
 -- the bytes of the first i numbers
 abbrev bytesTo : List ℕ → ℕ → ℕ
@@ -24,7 +25,8 @@ one-more : (k : ℕ) (xs : List ℕ) (i : ℕ) → i < length xs → getD xs i 0
 one-more k xs i h l = omega (arith, length-next xs i h, encode-most k (getD xs i 0) l)
 
 -- a row of n pieces of w numbers from place p on, each of at most b bytes
-row-bytes : (xs : List ℕ) (p w b n : ℕ) → ((k : ℕ) → k < n → bytesTo xs (p + w * suc k) ≤ bytesTo xs (p + w * k) + b) → bytesTo xs (p + w * n) ≤ bytesTo xs p + b * n
+row-bytes : (xs : List ℕ) (p w b n : ℕ) → ((k : ℕ) → k < n → bytesTo xs (p + w * suc k) ≤ bytesTo xs (p + w * k) + b)
+    → bytesTo xs (p + w * n) ≤ bytesTo xs p + b * n
 row-bytes xs p w b zero h = let e : p + w * 0 ≡ p = omega (arith, mul-zero w) in omega (arith, ap (bytesTo xs) e)
 row-bytes xs p w b (suc n) h = omega (arith, row-bytes xs p w b n (λ k l. h k (omega arith)), h n (omega arith), mul-suc b n)
 
@@ -33,21 +35,21 @@ module _ (xs : List ℕ) (v : Valid xs) where
   size = v .size
 
   -- R takes three bytes at most, T two
-  server-bytes : (j : ℕ) → j < serverCount xs → bytesTo xs (2 + 2 * suc j) ≤ bytesTo xs (2 + 2 * j) + 5
+  server-bytes : (j : ℕ) → j < serverCount xs → bytesTo xs (serverPlace xs (suc j) 0) ≤ bytesTo xs (serverPlace xs j 0) + 5
   server-bytes j h =
-      let p : ℕ = 2 + 2 * j in
-      let e : 2 + 2 * suc j ≡ p + 1 + 1 = omega arith in
-      let q : 3 + 2 * j ≡ p + 1 = omega arith in
+      let p : ℕ = serverPlace xs j 0 in
+      let e : serverPlace xs (suc j) 0 ≡ p + 1 + 1 = omega arith in
+      let q : serverPlace xs j 1 ≡ p + 1 = omega arith in
       let a = one-more 2 xs p (omega (arith, size)) (omega (arith, v .rates j h .most)) in
       let l : getD xs (p + 1) 0 < 128 ^ 2 = rw (← q) (omega (arith, v .latencies j h .most)) in
       let b = one-more 1 xs (p + 1) (omega (arith, size)) l in
       rw e (omega arith)
 
   -- first and last take one byte, σ and ρ three at most
-  flow-bytes : (k : ℕ) → k < flowCount xs → bytesTo xs (3 + 2 * serverCount xs + 4 * suc k) ≤ bytesTo xs (3 + 2 * serverCount xs + 4 * k) + 8
+  flow-bytes : (k : ℕ) → k < flowCount xs → bytesTo xs (flowPlace xs (suc k)) ≤ bytesTo xs (flowPlace xs k) + 8
   flow-bytes k h =
       let p : ℕ = flowPlace xs k in
-      let e : 3 + 2 * serverCount xs + 4 * suc k ≡ p + 1 + 1 + 1 + 1 = omega arith in
+      let e : flowPlace xs (suc k) ≡ p + 1 + 1 + 1 + 1 = omega arith in
       let two : p + 2 ≡ p + 1 + 1 = omega arith in
       let three : p + 3 ≡ p + 1 + 1 + 1 = omega arith in
       let n = v .servers .most in
@@ -82,16 +84,16 @@ module _ (xs : List ℕ) (v : Valid xs) where
       let b = one-more 0 xs 1 (omega (arith, size)) (omega (arith, v .servers .most)) in
       omega arith
 
-  count-bytes : bytesTo xs (3 + 2 * serverCount xs) ≤ bytesTo xs (2 + 2 * serverCount xs) + 1
+  count-bytes : bytesTo xs (serverPlace xs (serverCount xs) 1) ≤ bytesTo xs (countPlace xs) + 1
   count-bytes =
-      let e : 3 + 2 * serverCount xs ≡ 2 + 2 * serverCount xs + 1 = omega arith in
-      rw e (one-more 0 xs (2 + 2 * serverCount xs) (omega (arith, size)) (omega (arith, v .flows .most)))
+      let e : serverPlace xs (serverCount xs) 1 ≡ countPlace xs + 1 = omega arith in
+      rw e (one-more 0 xs (countPlace xs) (omega (arith, size)) (omega (arith, v .flows .most)))
 
   pub valid-bytes : length (encodeAll xs) ≤ 475
   valid-bytes =
       let whole : take (watchedPlace xs + 4) xs ≡ xs = take-all (watchedPlace xs + 4) xs (omega (arith, size)) in
-      let a = row-bytes xs 2 2 5 (serverCount xs) server-bytes in
-      let b = row-bytes xs (3 + 2 * serverCount xs) 4 8 (flowCount xs) flow-bytes in
+      let a = row-bytes xs 2 (perServer (edition xs)) 5 (serverCount xs) server-bytes in
+      let b = row-bytes xs (serverPlace xs (serverCount xs) 1) 4 8 (flowCount xs) flow-bytes in
       omega (arith, ap (λ (l : List ℕ). length (encodeAll l)) whole, front-bytes, count-bytes, rest-bytes, v .servers .most, v .flows .most)
 
 -- an accepted sheet of bytes

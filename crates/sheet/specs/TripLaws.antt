@@ -1,35 +1,32 @@
 -- The round trips: reading what was written gives back its numbers, and writing what was read gives back its bytes.
 -- Assumes nothing.
-use Prim.Native.Nat.{ℕ, zero, suc, _+_, _-_, _*_, _≤_, _<_}
+use Prim.Native.Nat.{ℕ, zero, suc, _+_, _≤_, _<_}
 use mathlib.Core.Path.{_≡_, refl, sym, ap, _∙_}
-use mathlib.Core.Logic.{_⊎_, inl, inr, ⊎-elim}
-use mathlib.Core.List.{List, [], _∷_, _++_, append-nil}
+use mathlib.Core.List.{List, [], _∷_, _++_}
 use mathlib.Core.Bool.{Bool, true, false, cond}
-use native.Mathlib.Numerals.{add-one}
 use native.Mathlib.Omega.{arith}
-use lib.ListN.{length, getD, take, drop, length-append, take-append-drop, drop-of-length-le}
+use lib.ListN.{length, getD, take, drop, take-append-drop, drop-of-length-le}
 use lib.Seq.{drop-cons, take-all, drop-drop, take-append-seam}
 use lib.Dec.{ltb}
 use borrow.Author.Tests.{le-ltb, ltb-false}
 use Rattle.numbers.specs.Seven.{encode, numberAt}
-use Rattle.numbers.specs.SevenLaws.{lt-or-ge, read-written, Bytes, WasRead, written-read}
+use Rattle.numbers.specs.SevenLaws.{read-written, Bytes, WasRead, written-read}
 use Rattle.numbers.specs.declared.Got.the-variants as got
-use Rattle.sheet.specs.declared.Seen.{Seen}
-use Rattle.sheet.specs.declared.Outcome.the-variants.{Done, Refused}
-use Rattle.sheet.specs.declared.Why.the-variants.{Short}
-use Rattle.sheet.specs.Rule.{most, ruleAt, seenAfter, isPast}
-use Rattle.sheet.specs.Sheet.{Found, fail, these, also, stepOn, walk, nothing, entryAt, sheetOf, listOf, encodeAll, gives, holds, readGives, readHolds, writeGives, writeHolds}
-use Rattle.sheet.specs.StepLaws.{Gave, value-step, end-step, Entry, entry-was, entry-in}
+use Rattle.fields.specs.declared.User.the-variants.{Reader}
+use Rattle.fields.specs.declared.Outcome.the-variants.{Done, Refused}
+use Rattle.fields.specs.declared.Why.the-variants.{Short}
+use Rattle.fields.specs.Rule.{most, Seen, nothing, seenAfter}
+use Rattle.sheet.specs.Sheet.{Found, fail, these, walk, sheetOf, listOf, encodeAll, gives, holds, readGives, readHolds, writeGives, writeHolds}
 use Rattle.sheet.specs.WalkLaws.{Walked, gave, ended, walked, walk-none, list-whole}
 use Rattle.sheet.specs.EncodeLaws.{encode-append, length-next}
 use Rattle.sheet.specs.Valid.{Valid}
-use Rattle.sheet.specs.ValidLaws.{listed-valid, valid-listed}
+use Rattle.sheet.specs.ValidLaws.{Source, read-valid, listed-valid, valid-listed, valid-walked}
 
 -- every element is below 2^32
 abbrev pub Words : List ℕ → Type 0
 Words xs = (i : ℕ) → getD xs i 0 < 4294967296
 
--- Written, then read: where the writer stands at place i of the list, the reader stands behind the bytes of the first i numbers.
+-- Written, then read: number i of the list stands behind the bytes of the first i numbers.
 
 module _ (xs : List ℕ) (words : Words xs) where
   abbrev placed : ℕ → ℕ
@@ -41,27 +38,17 @@ module _ (xs : List ℕ) (words : Words xs) where
   read-at : (i : ℕ) → i < length xs → numberAt (encodeAll xs) (placed i) ≡ got.Number (getD xs i 0) (placed (i + 1))
   read-at i h = rw (parted i h, length-next xs i h) (read-written (encodeAll (take i xs)) (getD xs i 0) (encodeAll (drop (suc i) xs)) (words i))
 
-  back-by : (k i : ℕ) (e : Seen) (ys : List ℕ) → Walked (entryAt xs) (length xs) k i i e ys
-      → ((e′ : Seen) (zs : List ℕ) → walk (entryAt xs) (length xs) k (i + 1) (i + 1) e′ ≡ these zs
-      → walk (numberAt (encodeAll xs)) (length (encodeAll xs)) k (placed (i + 1)) (i + 1) e′ ≡ these zs)
-      → walk (numberAt (encodeAll xs)) (length (encodeAll xs)) (suc k) (placed i) i e ≡ these ys
-  back-by k i e ys (gave x next zs v y w) go =
-      let t : Entry xs i x next = entry-was xs i x next (v .read) in
-      let n : numberAt (encodeAll xs) (placed i) ≡ got.Number x (placed (i + 1)) = rw (t .value) (read-at i (t .inside)) in
-      let s = value-step (numberAt (encodeAll xs) (placed i)) (length (encodeAll xs)) (placed i) (ruleAt i e) x (placed (i + 1)) (record { more = v .more; read = n; fine = v .fine }) in
-      rw (s, go (seenAfter e i x) zs (rw (t .place) at w)) (ap these (sym y))
-  back-by k i e ys (ended y p h) go =
-      let l : length (encodeAll xs) ≤ placed i = rw (take-all i xs h) (omega arith) in
-      rw (end-step (numberAt (encodeAll xs) (placed i)) (length (encodeAll xs)) (placed i) (ruleAt i e) p l) (ap these (sym y))
+  -- the bytes of a list give its numbers one by one
+  spelled : Source (numberAt (encodeAll xs)) (length (encodeAll xs)) placed xs
+  spelled = record { numbers = read-at; end = rw (take-all (length xs) xs (omega arith)) (omega arith) }
 
-  back : (k i : ℕ) (e : Seen) (ys : List ℕ) → walk (entryAt xs) (length xs) k i i e ≡ these ys
-      → walk (numberAt (encodeAll xs)) (length (encodeAll xs)) k (placed i) i e ≡ these ys
-  back zero i e ys w = absurd (walk-none (entryAt xs) (length xs) i i e ys w)
-  back (suc k) i e ys w = back-by k i e ys (walked (entryAt xs) (length xs) k i i e ys w) (λ e′ zs h. back k (i + 1) e′ zs h)
+-- the bytes of a valid list are read as that list
+pub valid-read : (xs : List ℕ) → Words xs → Valid xs → sheetOf (encodeAll xs) ≡ these xs
+unfolding sheetOf
+valid-read xs words v = valid-walked Reader (numberAt (encodeAll xs)) (length (encodeAll xs)) (placed xs words) xs (spelled xs words) v
 
 pub read-back : (xs : List ℕ) → Words xs → listOf xs ≡ these xs → sheetOf (encodeAll xs) ≡ these xs
-unfolding listOf sheetOf
-read-back xs words h = back xs words (suc most) 0 nothing xs h
+read-back xs words h = valid-read xs words (listed-valid xs xs h)
 
 -- Read, then written.
 
@@ -70,62 +57,24 @@ module _ (s : List ℕ) (bytes : Bytes s) where
   bytes-on : (at x next : ℕ) → WasRead s at x next → encode x ++ drop next s ≡ drop at s
   bytes-on at x next r = sym (sym (take-append-drop (length (encode x)) (drop at s)) ∙ rw (r .bytes, drop-drop, r .place))
 
-  spelt-by : (k at i : ℕ) (e : Seen) (ys : List ℕ) → Walked (numberAt s) (length s) k at i e ys
-      → ((next : ℕ) (e′ : Seen) (zs : List ℕ) → walk (numberAt s) (length s) k next (i + 1) e′ ≡ these zs → encodeAll zs ≡ drop next s) → encodeAll ys ≡ drop at s
+  spelt-by : (k at i : ℕ) (e : Seen) (ys : List ℕ) → Walked Reader (numberAt s) (length s) k at i e ys
+      → ((next : ℕ) (e′ : Seen) (zs : List ℕ) → walk Reader (numberAt s) (length s) k next (i + 1) e′ ≡ these zs → encodeAll zs ≡ drop next s)
+      → encodeAll ys ≡ drop at s
   spelt-by k at i e ys (gave x next zs v y w) go =
       rw (y, go next (seenAfter e i x) zs w) (bytes-on at x next (written-read s at x next bytes (v .read)))
   spelt-by k at i e ys (ended y p h) go = rw (y, drop-of-length-le s h)
 
-  spelt : (k at i : ℕ) (e : Seen) (ys : List ℕ) → walk (numberAt s) (length s) k at i e ≡ these ys → encodeAll ys ≡ drop at s
-  spelt zero at i e ys w = absurd (walk-none (numberAt s) (length s) at i e ys w)
-  spelt (suc k) at i e ys w = spelt-by k at i e ys (walked (numberAt s) (length s) k at i e ys w) (λ next e′ zs h. spelt k next (i + 1) e′ zs h)
+  spelt : (k at i : ℕ) (e : Seen) (ys : List ℕ) → walk Reader (numberAt s) (length s) k at i e ≡ these ys → encodeAll ys ≡ drop at s
+  spelt zero at i e ys w = absurd (walk-none Reader (numberAt s) (length s) at i e ys w)
+  spelt (suc k) at i e ys w = spelt-by k at i e ys (walked Reader (numberAt s) (length s) k at i e ys w) (λ next e′ zs h. spelt k next (i + 1) e′ zs h)
 
 pub write-back : (s xs : List ℕ) → Bytes s → sheetOf s ≡ these xs → encodeAll xs ≡ s
 unfolding sheetOf
 write-back s xs bytes h = spelt s bytes (suc most) 0 0 nothing xs h
 
--- What was read is taken by the writer, so it is valid.
-
-head-at : (xs : List ℕ) (i x : ℕ) (zs : List ℕ) → drop i xs ≡ x ∷ zs → (i < length xs) × ((getD xs i 0 ≡ x) × (drop (i + 1) xs ≡ zs))
-head-at xs i x zs e =
-    ⊎-elim
-    (λ (h : i < length xs). let d = sym (drop-cons xs i 0 h) ∙ e in (h, (cc, rw (add-one i) (cc))))
-    (λ (h : length xs ≤ i). let d : [] ≡ x ∷ zs = sym (drop-of-length-le xs h) ∙ e in let q : _≡_ {A = ℕ} 0 1 = cc in absurd (omega arith))
-    (lt-or-ge i (length xs))
-
-none-at : (xs : List ℕ) (i : ℕ) → drop i xs ≡ [] → length xs ≤ i
-none-at xs i e =
-    ⊎-elim
-    (λ (h : i < length xs). let d = sym (drop-cons xs i 0 h) ∙ e in let q : _≡_ {A = ℕ} 0 1 = cc in absurd (omega arith))
-    (λ (h : length xs ≤ i). h)
-    (lt-or-ge i (length xs))
-
-module _ (s xs : List ℕ) where
-  listed-by : (k at i : ℕ) (e : Seen) (ys : List ℕ) → drop i xs ≡ ys → Walked (numberAt s) (length s) k at i e ys
-      → ((next : ℕ) (e′ : Seen) (zs : List ℕ) → drop (i + 1) xs ≡ zs → walk (numberAt s) (length s) k next (i + 1) e′ ≡ these zs
-      → walk (entryAt xs) (length xs) k (i + 1) (i + 1) e′ ≡ these zs)
-      → walk (entryAt xs) (length xs) (suc k) i i e ≡ these ys
-  listed-by k at i e ys d (gave x next zs v y w) go =
-      let h = head-at xs i x zs (d ∙ y) in
-      let n : entryAt xs i ≡ got.Number x (i + 1) = entry-in xs i (h .0) ∙ rw (h .1 .0) in
-      let t = value-step (entryAt xs i) (length xs) i (ruleAt i e) x (i + 1) (record { more = v .more; read = n; fine = v .fine }) in
-      rw (t, go next (seenAfter e i x) zs (h .1 .1) w) (ap these (sym y))
-  listed-by k at i e ys d (ended y p h) go =
-      rw (end-step (entryAt xs i) (length xs) i (ruleAt i e) p (none-at xs i (d ∙ y))) (ap these (sym y))
-
-  listed : (k at i : ℕ) (e : Seen) (ys : List ℕ) → drop i xs ≡ ys → walk (numberAt s) (length s) k at i e ≡ these ys
-      → walk (entryAt xs) (length xs) k i i e ≡ these ys
-  listed zero at i e ys d w = absurd (walk-none (numberAt s) (length s) at i e ys w)
-  listed (suc k) at i e ys d w =
-      listed-by k at i e ys d (walked (numberAt s) (length s) k at i e ys w) (λ next e′ zs d′ h. listed k next (i + 1) e′ zs d′ h)
-
+-- What was read is taken by the writer, since it is valid.
 pub read-listed : (s xs : List ℕ) → sheetOf s ≡ these xs → listOf xs ≡ these xs
-unfolding sheetOf listOf
-read-listed s xs h = listed s xs (suc most) 0 0 nothing xs refl h
-
--- The accepted numbers of a sheet meet document 01's table.
-pub read-valid : (s xs : List ℕ) → sheetOf s ≡ these xs → Valid xs
-read-valid s xs h = listed-valid xs xs (read-listed s xs h)
+read-listed s xs h = valid-listed xs (read-valid s xs h)
 
 -- The round trips of the two functions, where the buffers have room: what one left at the front of its buffer, the other takes.
 
@@ -165,7 +114,8 @@ read-written-sheet xs buffer list n words e room =
     let y : d .numbers ≡ xs = list-whole xs (d .numbers) (d .is) in
     let is : listOf xs ≡ these xs = d .is ∙ ap these y in
     let size : length (encodeAll xs) ≡ n = ap (λ (l : List ℕ). length (encodeAll l)) (sym y) ∙ d .count in
-    let front : take n (writeHolds (listOf xs) buffer) ≡ encodeAll xs = rw (is, ← size) (holds-front (encodeAll xs) buffer (omega (arith, size, d .count, d .fits))) in
+    let front : take n (writeHolds (listOf xs) buffer) ≡ encodeAll xs =
+    rw (is, ← size) (holds-front (encodeAll xs) buffer (omega (arith, size, d .count, d .fits))) in
     rw (front, read-back xs words is) (gives-room (length xs) (length list) room, holds-front xs list room)
 
 -- "writing a read sheet gives back its bytes": the n numbers that `read_sheet` read are written as the bytes that it was given.

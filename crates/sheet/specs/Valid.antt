@@ -1,11 +1,12 @@
 -- The numbers of a sheet by name, and document 01's table of their ranges. Whoever uses an accepted sheet's numbers uses this.
 -- Servers and cross flows are counted from 0 here: server j of a list is document 01's server j + 1.
 -- Assumes nothing.
-use Prim.Native.Nat.{ℕ, _+_, _*_, _≤_, _<_}
+use Prim.Native.Nat.{ℕ, _+_, _≤_, _<_}
 use mathlib.Core.Path.{_≡_}
 use mathlib.Core.Logic.{_⊎_}
 use mathlib.Core.List.{List}
 use lib.ListN.{length, getD}
+use Rattle.fields.specs.Rule.{serverAt, flowAt}
 use Rattle.sheet.specs.Sheet.{encodeAll}
 
 -- "edition", "N"
@@ -15,20 +16,26 @@ edition xs = getD xs 0 0
 abbrev pub serverCount : List ℕ → ℕ
 serverCount xs = getD xs 1 0
 
--- "per server: R, T"
+-- "per server: R, T": the place of number c of server j
+abbrev pub serverPlace : List ℕ → ℕ → ℕ → ℕ
+serverPlace xs j c = serverAt (edition xs) j c
+
 abbrev pub serverRate : List ℕ → ℕ → ℕ
-serverRate xs j = getD xs (2 + 2 * j) 0
+serverRate xs j = getD xs (serverPlace xs j 0) 0
 
 abbrev pub serverLatency : List ℕ → ℕ → ℕ
-serverLatency xs j = getD xs (3 + 2 * j) 0
+serverLatency xs j = getD xs (serverPlace xs j 1) 0
 
--- "number of cross flows"
+-- "number of cross flows", behind the last server
+abbrev pub countPlace : List ℕ → ℕ
+countPlace xs = serverPlace xs (serverCount xs) 0
+
 abbrev pub flowCount : List ℕ → ℕ
-flowCount xs = getD xs (2 + 2 * serverCount xs) 0
+flowCount xs = getD xs (countPlace xs) 0
 
 -- "per flow: first, last", "per flow: σ, ρ"
 abbrev pub flowPlace : List ℕ → ℕ → ℕ
-flowPlace xs k = 3 + 2 * serverCount xs + 4 * k
+flowPlace xs k = flowAt (edition xs) (serverCount xs) k
 
 abbrev pub flowFirst : List ℕ → ℕ → ℕ
 flowFirst xs k = getD xs (flowPlace xs k) 0

@@ -1,32 +1,21 @@
 -- Each public function's contract leaves one possible result, and one possible content of each lent buffer, for every input.
 -- Assumes nothing.
-use Prim.Native.Nat.{ℕ, _+_}
-use mathlib.Core.Path.{_≡_, sym, _∙_}
+use Prim.Native.Nat.{ℕ}
+use mathlib.Core.Path.{_≡_}
 use mathlib.Core.List.{List}
-use lib.ListN.{length}
-use lib.Seq.{sets}
-use Rattle.text.specs.Decimal.{decimal}
+use Rattle.ground.specs.ValueLaws.{one-value}
+use Rattle.text.specs.declared.Printed.{Printed}
+use Rattle.text.specs.Contract.{BytesOf, DecimalWidth, Put, HandOver}
 
--- two values that a contract makes equal to the same
-pub one-value : {A : Type 0} {x a b : A} → a ≡ x → b ≡ x → a ≡ b
-one-value p q = p ∙ sym q
+pub bytes-of-unique : (printed : Printed) (r r′ : ℕ) → BytesOf printed r → BytesOf printed r′ → r ≡ r′
+bytes-of-unique printed r r′ p q = one-value (p .is) (q .is)
 
-pub decimal-width-unique : (x r r′ : ℕ) → r ≡ length (decimal x) → r′ ≡ length (decimal x) → r ≡ r′
-decimal-width-unique x r r′ = one-value
+pub decimal-width-unique : (x r r′ : ℕ) → DecimalWidth x r → DecimalWidth x r′ → r ≡ r′
+decimal-width-unique x r r′ p q = one-value (p .is) (q .is)
 
--- what `put_decimal` and `put_word` promise of their result and of the buffer, where these bytes are written
-pub record Put (bytes before : List ℕ) (at r : ℕ) (after : List ℕ) : Type 0 where
-  pub next : r ≡ at + length bytes
-  pub holds : after ≡ sets before at bytes
-
-put-unique : (bytes before : List ℕ) (at r r′ : ℕ) (after after′ : List ℕ) → Put bytes before at r after → Put bytes before at r′ after′
+pub put-unique : (bytes before : List ℕ) (at r r′ : ℕ) (after after′ : List ℕ) → Put bytes before at r after → Put bytes before at r′ after′
     → (r ≡ r′) × (after ≡ after′)
-put-unique bytes before at r r′ after after′ p q = (one-value (p .next) (q .next), one-value (p .holds) (q .holds))
+put-unique bytes before at r r′ after after′ p q = (one-value (p .next) (q .next), one-value (p .stored) (q .stored))
 
-pub put-decimal-unique : (x : ℕ) (before : List ℕ) (at r r′ : ℕ) (after after′ : List ℕ) → Put (decimal x) before at r after
-    → Put (decimal x) before at r′ after′ → (r ≡ r′) × (after ≡ after′)
-put-decimal-unique x = put-unique (decimal x)
-
-pub put-word-unique : (word before : List ℕ) (at r r′ : ℕ) (after after′ : List ℕ) → Put word before at r after → Put word before at r′ after′
-    → (r ≡ r′) × (after ≡ after′)
-put-word-unique = put-unique
+pub hand-over-unique : (bytes before after after′ : List ℕ) → HandOver bytes before after → HandOver bytes before after′ → after ≡ after′
+hand-over-unique bytes before after after′ p q = one-value (p .leaves) (q .leaves)

@@ -3,8 +3,8 @@
 use Prim.Native.Nat.{ℕ, _+_}
 use mathlib.Core.List.{List, [], _∷_}
 use lib.ListN.{length}
-use Rattle.row.specs.Sums.{weigh, total}
-use Rattle.row.specs.Tandem.{Tandem, server, on}
+use Rattle.tandem.specs.Sums.{weigh, total}
+use Rattle.tandem.specs.Tandem.{Tandem, server, on}
 use Rattle.tree.specs.Stretch.{Stretch, none, then-server, then-group}
 
 unfoldable pub latencies : Tandem → Stretch → ℕ

@@ -4,7 +4,7 @@ use Prim.Native.Nat.{ℕ, suc}
 use mathlib.Core.List.{List, [], _∷_}
 use lib.ListN.{length, getD}
 use Rattle.curves.specs.Curve.{delay}
-use Rattle.row.specs.Tandem.{Tandem, Path, flow}
+use Rattle.tandem.specs.Tandem.{Tandem, Path, flow}
 use Rattle.row.specs.Groups.{groups}
 use Rattle.tree.specs.Grid.{Answer, Found, foundOf}
 use Rattle.tree.specs.Stretch.{Stretch, groupWait, curve}

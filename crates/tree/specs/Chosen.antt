@@ -5,7 +5,7 @@ use mathlib.Core.Path.{_≡_}
 use mathlib.Core.List.{List}
 use lib.ListN.{length, replicate}
 use Rattle.curves.specs.Slots.{Covers, Least}
-use Rattle.row.specs.Tandem.{Tandem, flow}
+use Rattle.tandem.specs.Tandem.{Tandem, flow}
 use Rattle.row.specs.Groups.{groups}
 use Rattle.tree.specs.Grid.{stepsOf, pointsOf, Answer}
 use Rattle.tree.specs.Searched.{First}

@@ -5,10 +5,10 @@ use Prim.Native.Nat.{ℕ, zero, suc, _≤_}
 use mathlib.Core.Path.{_≡_, refl, sym, ap, _∙_, subst}
 use mathlib.Core.List.{List}
 use native.Mathlib.Omega.{arith}
-use lib.ListN.{length, replicate}
+use lib.ListN.{length}
 use Rattle.curves.specs.Slots.{Covers, Least}
 use Rattle.curves.specs.SlotsLaws.{least-unique}
-use Rattle.row.specs.Tandem.{Tandem, flow}
+use Rattle.tandem.specs.Tandem.{Tandem, flow}
 use Rattle.row.specs.Groups.{groups}
 use Rattle.row.specs.Accepted.{Accepted}
 use Rattle.tree.specs.Grid.{stepsOf, pointsOf, Answer, foundOf}
@@ -29,7 +29,8 @@ least-there row ok point best e =
     subst (λ (d : ℕ). Least (Covers (meaning row (extraOf point) (tree row)) (flow row 0 .burst) (flow row 0 .rate)) d) (sym (ap (λ (a : Answer). a .delay) e))
     (bound-is-least row ok (extraOf point))
 
-pub searched-chosen : (row : Tandem) → Accepted row → (mode g : ℕ) → mode ≤ 1 → 1 ≤ g → Chosen row mode g (searched row mode g .start) (searched row mode g .best)
+pub searched-chosen : (row : Tandem) → Accepted row → (mode g : ℕ) → mode ≤ 1 → 1 ≤ g
+    → Chosen row mode g (searched row mode g .start) (searched row mode g .best)
 unfolding searched foundOf
 searched-chosen row ok zero g m h =
     let f = searched-first row g h in
@@ -65,7 +66,8 @@ chosen-unique row mode g start start′ best best′ m c d = (same, by mode refl
 
     by : (k : ℕ) → mode ≡ k → k ≤ 1 → best ≡ best′
     by zero z m =
-        first-unique (answerAt row) (pointsOf (stepsOf start g) (length (groups row))) best best′ (c .searches z .0) (subst (λ (s : ℕ). Firsts s best′) (sym same) (d .searches z .0))
+        first-unique (answerAt row) (pointsOf (stepsOf start g) (length (groups row))) best best′ (c .searches z .0)
+        (subst (λ (s : ℕ). Firsts s best′) (sym same) (d .searches z .0))
     by (suc zero) z m = c .there ∙ ap (answerAt row) (c .quick z ∙ sym (d .quick z)) ∙ sym (d .there)
     by (suc (suc k)) z m = absurd (omega arith)
 

@@ -5,7 +5,7 @@ use mathlib.Core.List.{List, [], _∷_}
 use lib.ListN.{length}
 use Rattle.curves.specs.Curve.{leastWait, All, Rates}
 use Rattle.curves.specs.Held.{Live}
-use Rattle.row.specs.declared.Flow.{Flow}
+use Rattle.tandem.specs.declared.Flow.{Flow}
 use Rattle.tree.specs.Plan.{Node}
 
 -- a node of the group g, or of the watched flow

@@ -3,7 +3,7 @@
 use Prim.Native.Nat.{ℕ, suc, _+_, _≤_, _<_}
 use mathlib.Core.Path.{_≡_}
 use mathlib.Core.Bool.{Bool, true, false, _||_}
-use Rattle.row.specs.Tandem.{Tandem, size, crosses, on}
+use Rattle.tandem.specs.Tandem.{Tandem, size, crosses, on}
 use Rattle.tree.specs.Stretch.{Stretch, none, then-server, then-group, span}
 
 -- the stretch is the row's from server i on, and P are the flows that cross the whole of it and are in no group inside it. A server

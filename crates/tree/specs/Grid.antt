@@ -5,7 +5,7 @@ use mathlib.Core.Bool.{Bool, true, false, cond}
 use mathlib.Core.List.{List, [], _∷_, _++_, map}
 use lib.Dec.{ltb, eqb}
 use lib.ListN.{length, replicate}
-use Rattle.row.specs.OfSheet.{listed}
+use Rattle.tandem.specs.OfSheet.{listed}
 
 -- "e runs over floor(i·start / (g − 1)), i = 0..g − 1"
 unfoldable pub stepsOf : ℕ → ℕ → List ℕ

@@ -7,30 +7,18 @@ use mathlib.Core.Logic.{_⊎_, inl, inr}
 use mathlib.Core.List.{List, [], _∷_, _++_, map, append-assoc}
 use Prim.Native.Nat.{ℕ, zero, suc, _+_, _-_, _*_, _/_, _^_, _≤_, _<_}
 use native.Mathlib.Omega.{arith}
-use native.Mathlib.Nat.{zero-add, add-zero, zero-mul, zero-div, mul-le-mul-right, mul-comm, mul-div-cancel, div-lt-iff-lt-mul, le-div-iff-mul-le, pow-zero, pow-suc}
+use native.Mathlib.Nat.{zero-add, add-zero, zero-mul, zero-div, mul-le-mul-right, mul-comm, mul-div-cancel, div-lt-iff-lt-mul, le-div-iff-mul-le}
+use native.Mathlib.Nat.{pow-zero, pow-suc}
 use lib.Dec.{ltb}
 use lib.ListN.{length, getD, replicate, length-append, replicate-append-replicate}
 use borrow.Author.Tests.{ltb-true, ltb-false, le-ltb, ne-eqb}
-use Rattle.row.specs.OfSheet.{listed}
-use Rattle.row.specs.OfSheetLaws.{length-listed, listed-at}
+use Rattle.tandem.specs.OfSheet.{listed}
+use Rattle.tandem.specs.OfSheetLaws.{length-listed, listed-at}
 use Rattle.tree.specs.Grid.{stepsOf, flat, pointsFrom, pointsOf, Answer, better, bestOf, foundOf}
-use Rattle.tree.specs.Searched.{Each, First, Low}
-use Rattle.row.specs.TestLaws.{decide}
-
--- lists of which each entry has a property
-
-pub each-append : {A : Type 0} (P : A → Type 0) (l m : List A) → Each P l → Each P m → Each P (l ++ m)
-each-append P [] m h k = k
-each-append P (x ∷ l) m h k = (h .0, each-append P l m (h .1) k)
-
-pub each-map : {A : Type 0} (P Q : A → Type 0) (l : List A) → ((x : A) → P x → Q x) → Each P l → Each Q l
-each-map P Q [] f h = tt
-each-map P Q (x ∷ l) f h = (f x (h .0), each-map P Q l f (h .1))
-
-pub each-at : {A : Type 0} (P : A → Type 0) (l : List A) (d : A) → Each P l → (k : ℕ) → k < length l → P (getD l k d)
-each-at P [] d e k h = absurd (omega arith)
-each-at P (x ∷ l) d e zero h = e .0
-each-at P (x ∷ l) d e (suc k) h = each-at P l d (e .1) k (omega arith)
+use Rattle.ground.specs.Each.{Each}
+use Rattle.ground.specs.EachLaws.{each-append, each-map, each-in}
+use Rattle.tree.specs.Searched.{First, Low}
+use Rattle.tandem.specs.TestLaws.{decide}
 
 -- numbers up to b, with zeros behind them
 pub each-below : (b : ℕ) (es : List ℕ) → Each (λ e. e ≤ b) es → (k : ℕ) → getD es k 0 ≤ b
@@ -41,10 +29,6 @@ each-below b (e ∷ es) h (suc k) = each-below b es (h .1) k
 pub zeros-below : (b n : ℕ) → Each (λ e. e ≤ b) (replicate n 0)
 zeros-below b zero = tt
 zeros-below b (suc n) = (omega arith, zeros-below b n)
-
-pub each-in : {A : Type 0} (P : A → Type 0) (l : List A) (x : A) (m : List A) → Each P (l ++ (x ∷ m)) → P x
-each-in P [] x m h = h .0
-each-in P (y ∷ l) x m h = each-in P l x m (h .1)
 
 -- an entry without the property does not stand in the part whose entries all have it
 not-inside : {A : Type 0} (P : A → Type 0) (b y l : List A) (p : A) (m : List A) → b ++ y ≡ l ++ (p ∷ m) → Each P b → (P p → ⊥) → length b ≤ length l
@@ -155,8 +139,10 @@ module _ (at : List ℕ → Answer) (points : List (List ℕ)) where
   first-point a b f h =
       let x = ap (λ (r : Answer). r .delay) (f .there) in
       let y = ap (λ (r : Answer). r .delay) (h .there) in
-      let u = each-in (λ p. a .delay ≤ at p .delay) (h .before) (h .point) (h .behind) (subst (Each (λ p. a .delay ≤ at p .delay)) (h .split) (first-least a f)) in
-      let v = each-in (λ p. b .delay ≤ at p .delay) (f .before) (f .point) (f .behind) (subst (Each (λ p. b .delay ≤ at p .delay)) (f .split) (first-least b h)) in
+      let u = each-in (λ p. a .delay ≤ at p .delay) (h .before) (h .point) (h .behind)
+      (subst (Each (λ p. a .delay ≤ at p .delay)) (h .split) (first-least a f)) in
+      let v = each-in (λ p. b .delay ≤ at p .delay) (f .before) (f .point) (f .behind)
+      (subst (Each (λ p. b .delay ≤ at p .delay)) (f .split) (first-least b h)) in
       let n = first-stands a f (h .before) (h .point) (h .behind) (h .split) (omega (arith, x, y, u, v)) in
       let m = first-stands b h (f .before) (f .point) (f .behind) (f .split) (omega (arith, x, y, u, v)) in
       same-place (f .before) (f .point) (f .behind) (h .before) (h .point) (h .behind) (sym (f .split) ∙ h .split) (omega (arith, n, m))
@@ -167,7 +153,8 @@ module _ (at : List ℕ → Answer) (points : List (List ℕ)) where
 pub best-le : (at : List ℕ → Answer) (a : Answer) (l : List (List ℕ)) → bestOf at a l .delay ≤ a .delay
 best-le at a l = go (best-first at a l)
   where
-    go : ((bestOf at a l ≡ a) × Each (λ p. a .delay ≤ at p .delay) l) ⊎ ((bestOf at a l .delay < a .delay) × First at l (bestOf at a l)) → bestOf at a l .delay ≤ a .delay
+    go : ((bestOf at a l ≡ a) × Each (λ p. a .delay ≤ at p .delay) l) ⊎ ((bestOf at a l .delay < a .delay) × First at l (bestOf at a l))
+        → bestOf at a l .delay ≤ a .delay
     go (inl x) = omega (arith, ap (λ (r : Answer). r .delay) (x .0))
     go (inr x) = omega (arith, x .0)
 
@@ -305,11 +292,12 @@ low-snoc start e [] h d (suc k) = omega arith
 low-snoc start e (x ∷ l) h d zero = h 0
 low-snoc start e (x ∷ l) h d (suc k) = low-snoc start e l (λ k. h (suc k)) d k
 
-each-flat : {A B : Type 0} (P : A → Type 0) (Q : B → Type 0) (h : A → List B) (l : List A) → ((e : A) → P e → Each Q (h e)) → Each P l → Each Q (flat h l)
+pub each-flat : {A B : Type 0} (P : A → Type 0) (Q : B → Type 0) (h : A → List B) (l : List A) → ((e : A) → P e → Each Q (h e)) → Each P l → Each Q (flat h l)
 each-flat P Q h [] k a = tt
 each-flat P Q h (e ∷ l) k a = each-append Q (h e) (flat h l) (k e (a .0)) (each-flat P Q h l k (a .1))
 
-points-from-low : (start : ℕ) (steps : List ℕ) → Each (λ e. e ≤ start) steps → (n m : ℕ) (fixed : List ℕ) → Low start m fixed → Each (Low start (m + n)) (pointsFrom steps fixed n)
+points-from-low : (start : ℕ) (steps : List ℕ) → Each (λ e. e ≤ start) steps → (n m : ℕ) (fixed : List ℕ) → Low start m fixed
+    → Each (Low start (m + n)) (pointsFrom steps fixed n)
 points-from-low start steps h zero m fixed f = (record { full = omega (arith, f .full); low = f .low }, tt)
 points-from-low start steps h (suc n) m fixed f =
     let z : m + 1 + n ≡ m + suc n = omega arith in
@@ -348,7 +336,8 @@ module _ (at : List ℕ → Answer) (n : ℕ) where
       best : Answer
       best = bestOf at (at (replicate n 0)) points
 
-      go : ((best ≡ at (replicate n 0)) × Each (λ p. at (replicate n 0) .delay ≤ at p .delay) points) ⊎ ((best .delay < at (replicate n 0) .delay) × First at points best) → First at points best
+      go : ((best ≡ at (replicate n 0)) × Each (λ p. at (replicate n 0) .delay ≤ at p .delay) points)
+          ⊎ ((best .delay < at (replicate n 0) .delay) × First at points best) → First at points best
       go (inr x) = x .1
       go (inl x) =
           let e = ap (λ (r : Answer). r .delay) (x .0) in

@@ -8,7 +8,7 @@ use lib.Dec.{ltb, eqb}
 use lib.ListN.{length, replicate}
 use Rattle.curves.specs.Curve.{Shape}
 use Rattle.curves.specs.declared.Stage.{Stage}
-use Rattle.row.specs.Tandem.{Tandem}
+use Rattle.tandem.specs.Tandem.{Tandem}
 use Rattle.row.specs.Groups.{groups, reads}
 use Rattle.tree.specs.Grid.{stepsOf, pointsOf}
 use Rattle.tree.specs.Plan.{Node, plan}

@@ -1,30 +1,32 @@
 -- Refusal 9 is never given: at every point of the grid of an accepted row within the limits, no offset, stage, wait or delay passes 2^63 − 1.
 -- Every extra is at most `start`, which is below 2^30, and at such points all nodes are in range.
 -- Assumes nothing.
-use Prim.Native.Nat.{ℕ, zero, suc, _+_, _-_, _*_, _/_, _^_, _≤_, _<_}
-use mathlib.Core.Path.{_≡_, refl, sym, ap, _∙_}
+use Prim.Native.Nat.{ℕ, _+_, _-_, _^_, _≤_, _<_}
+use mathlib.Core.Path.{_≡_, refl, sym}
 use mathlib.Core.Bool.{Bool, true, false, cond, _||_, true≢false}
-use mathlib.Core.List.{List, [], _∷_, _++_, map}
+use mathlib.Core.List.{List, [], _∷_}
 use native.Mathlib.Omega.{arith}
-use lib.Dec.{ltb, eqb}
+use lib.Dec.{eqb}
 use lib.ListN.{length, getD, replicate}
 use borrow.Author.Tests.{le-ltb, ltb-false, eq-eqb, eqb-true}
-use Rattle.curves.specs.Curve.{Shape, All, Rates, line, after, remainder, leastWait}
+use Rattle.curves.specs.Curve.{Shape, All, Rates, after, remainder, leastWait}
 use Rattle.curves.specs.Held.{Live, Leaves}
 use Rattle.curves.specs.HeldLaws.{leaves-after-wait}
 use Rattle.curves.specs.StageLaws.{all-weaken, all-map, all-both}
 use Rattle.curves.specs.declared.Stage.{Stage}
-use Rattle.row.specs.declared.Server.{Server}
-use Rattle.row.specs.declared.Flow.{Flow}
-use Rattle.row.specs.Tandem.{Tandem}
+use Rattle.tandem.specs.declared.Server.{Server}
+use Rattle.tandem.specs.declared.Flow.{Flow}
+use Rattle.tandem.specs.Tandem.{Tandem}
 use Rattle.row.specs.Groups.{groups, reads}
-use Rattle.row.specs.Accepted.{Accepted, Limits}
+use Rattle.tandem.specs.Sound.{Limits}
+use Rattle.row.specs.Accepted.{Accepted}
 use Rattle.tree.specs.Grid.{stepsOf, pointsOf}
 use Rattle.tree.specs.Plan.{Node, nodeOf, nodeCurve, headOf, tailOf, plan}
 use Rattle.tree.specs.Fine.{Fine, AllFine}
 use Rattle.tree.specs.Bound.{answerAt}
 use Rattle.tree.specs.SizeLaws.{zeros-at, start-small, plan-fine, delay-small}
-use Rattle.tree.specs.Searched.{Each, Low}
+use Rattle.ground.specs.Each.{Each}
+use Rattle.tree.specs.Searched.{Low}
 use Rattle.tree.specs.GridLaws.{points-low}
 use Rattle.tree.specs.Large.{some, large, largeCurve, largeNode, largeAt, tooLarge}
 use Rattle.tree.specs.Small.{SmallCurve, SmallNode, SmallAt}
@@ -62,7 +64,8 @@ unfolding remainder
 left-light c σ ρ θ w h l r =
     all-map (λ s. Live s × Leaves σ ρ (θ - c .offset) s) Light (after σ ρ (θ - c .offset)) (c .stages)
     (λ s k. record { burst = omega (arith, k .1 .fits); rate = omega (arith, k .0 .slow) })
-    (all-both Live (Leaves σ ρ (θ - c .offset)) (λ s. Live s × Leaves σ ρ (θ - c .offset) s) (c .stages) (λ s a b. (a, b)) l (leaves-after-wait c σ ρ θ w h l r))
+    (all-both Live (Leaves σ ρ (θ - c .offset)) (λ s. Live s × Leaves σ ρ (θ - c .offset) s) (c .stages) (λ s a b. (a, b)) l
+    (leaves-after-wait c σ ρ θ w h l r))
 
 -- a node in range
 fine-node : (c : Shape) (g : Flow) (e : ℕ) → Fine (nodeOf c g e) g → largeNode (nodeOf c g e) ≡ false
@@ -71,7 +74,8 @@ fine-node c g e f =
     let θ : ℕ = leastWait c (g .burst) + e in
     let own : largeCurve c ≡ false = light-curve c (omega (arith, f .near)) (live-light (c .stages) (f .live)) in
     let rest : largeCurve (remainder c (g .burst) (g .rate) θ) ≡ false =
-    light-curve (remainder c (g .burst) (g .rate) θ) (omega (arith, f .soon)) (left-light c (g .burst) (g .rate) θ (omega arith) (omega (arith, f .soon)) (f .live) (f .room)) in
+    light-curve (remainder c (g .burst) (g .rate) θ) (omega (arith, f .soon))
+    (left-light c (g .burst) (g .rate) θ (omega arith) (omega (arith, f .soon)) (f .live) (f .room)) in
     neither (largeCurve c) (large θ || largeCurve (remainder c (g .burst) (g .rate) θ)) own
     (neither (large θ) (largeCurve (remainder c (g .burst) (g .rate) θ)) (small-one θ (omega (arith, f .soon))) rest)
 
@@ -102,7 +106,8 @@ unfolding some
 not-some P p [] f h = tt
 not-some P p (x ∷ l) f h = let k = not-either (p x) (some p l) h in (f x (k .0), not-some P p l f (k .1))
 
-small-stages : (l : List Stage) → some (λ (s : Stage). large (s .burst) || large (s .rate)) l ≡ false → All (λ s. (s .burst ≤ 2 ^ 63 - 1) × (s .rate ≤ 2 ^ 63 - 1)) l
+small-stages : (l : List Stage) → some (λ (s : Stage). large (s .burst) || large (s .rate)) l ≡ false
+    → All (λ s. (s .burst ≤ 2 ^ 63 - 1) × (s .rate ≤ 2 ^ 63 - 1)) l
 unfolding some
 small-stages [] h = tt
 small-stages (s ∷ l) h =
@@ -127,14 +132,19 @@ small-at : (row : Tandem) (es : List ℕ) → largeAt row es ≡ false → Small
 unfolding largeAt
 small-at row es h =
     let k = not-either (some largeNode (plan (row .servers) (reads row) (0 ∷ es))) (large (answerAt row es .delay)) h in
-    record { nodes = not-some SmallNode largeNode (plan (row .servers) (reads row) (0 ∷ es)) small-node (k .0); delay = not-large (answerAt row es .delay) (k .1) }
+    record {
+      nodes = not-some SmallNode largeNode (plan (row .servers) (reads row) (0 ∷ es)) small-node (k .0);
+      delay =
+          not-large (answerAt row es .delay) (k .1);
+    }
 
 -- the points that are worked out: the one with every e = 0, and in mode 0 all points of the grid
 pub not-too-large : (row : Tandem) (mode g : ℕ) → tooLarge row mode g ≡ false
     → SmallAt row (replicate (length (groups row)) 0)
     × (mode ≡ 0 → Each (SmallAt row) (pointsOf (stepsOf (answerAt row (replicate (length (groups row)) 0) .delay) g) (length (groups row))))
 unfolding tooLarge
-not-too-large row mode g h = (small-at row (replicate n 0) (k .0), λ z. not-some (SmallAt row) (largeAt row) points (small-at row) (turn (eqb mode 0) (eq-eqb mode 0 z) (k .1)))
+not-too-large row mode g h =
+    (small-at row (replicate n 0) (k .0), λ z. not-some (SmallAt row) (largeAt row) points (small-at row) (turn (eqb mode 0) (eq-eqb mode 0 z) (k .1)))
   where
     n : ℕ
     n = length (groups row)
@@ -154,7 +164,8 @@ not-too-large row mode g h = (small-at row (replicate n 0) (k .0), λ z. not-som
 curve-small : (c : Shape) → SmallCurve c → largeCurve c ≡ false
 curve-small c h =
     light-curve c (omega (arith, h .offset))
-    (all-weaken (λ s. (s .burst ≤ 2 ^ 63 - 1) × (s .rate ≤ 2 ^ 63 - 1)) Light (c .stages) (λ s k. record { burst = omega (arith, k .0); rate = omega (arith, k .1) }) (h .stages))
+    (all-weaken (λ s. (s .burst ≤ 2 ^ 63 - 1) × (s .rate ≤ 2 ^ 63 - 1)) Light (c .stages)
+    (λ s k. record { burst = omega (arith, k .0); rate = omega (arith, k .1) }) (h .stages))
 
 node-small : (n : Node) → SmallNode n → largeNode n ≡ false
 unfolding largeNode
@@ -166,7 +177,8 @@ at-small : (row : Tandem) (es : List ℕ) → SmallAt row es → largeAt row es 
 unfolding largeAt
 at-small row es h =
     neither (some largeNode (plan (row .servers) (reads row) (0 ∷ es))) (large (answerAt row es .delay))
-    (none-each SmallNode largeNode (plan (row .servers) (reads row) (0 ∷ es)) node-small (h .nodes)) (small-one (answerAt row es .delay) (omega (arith, h .delay)))
+    (none-each SmallNode largeNode (plan (row .servers) (reads row) (0 ∷ es)) node-small (h .nodes))
+    (small-one (answerAt row es .delay) (omega (arith, h .delay)))
 
 pub small-passes : (row : Tandem) (mode g : ℕ) → SmallAt row (replicate (length (groups row)) 0)
     → (mode ≡ 0 → Each (SmallAt row) (pointsOf (stepsOf (answerAt row (replicate (length (groups row)) 0) .delay) g) (length (groups row))))
@@ -190,7 +202,8 @@ module _ (row : Tandem) (ok : Accepted row) (limits : Limits row) where
   unfolding largeAt
   none-at es low =
       neither (some largeNode (plan (row .servers) (reads row) (0 ∷ es))) (large (answerAt row es .delay))
-      (fine-plan (row .servers) (reads row) (0 ∷ es) (plan-fine row ok limits es low)) (small-one (answerAt row es .delay) (omega (arith, delay-small row ok limits es low)))
+      (fine-plan (row .servers) (reads row) (0 ∷ es) (plan-fine row ok limits es low))
+      (small-one (answerAt row es .delay) (omega (arith, delay-small row ok limits es low)))
 
   pub never-too-large : (mode g : ℕ) → 2 ≤ g → tooLarge row mode g ≡ false
   unfolding tooLarge

@@ -3,7 +3,7 @@
 -- Assumes nothing.
 use Prim.Native.Nat.{ℕ}
 use Rattle.curves.specs.Slots.{serve, conv, left}
-use Rattle.row.specs.Tandem.{Tandem, server, on, bursts, rates}
+use Rattle.tandem.specs.Tandem.{Tandem, server, on, bursts, rates}
 use Rattle.tree.specs.Stretch.{Stretch, none, then-server, then-group, groupWait, curve}
 
 -- f is the stretch's function: one piece more, with the function g, stands behind it in series, or alone where there is nothing before it

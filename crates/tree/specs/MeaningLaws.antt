@@ -14,16 +14,16 @@ use Rattle.curves.specs.CurveLaws.{server-is-serve}
 use Rattle.curves.specs.JoinLaws.{neutral-joined, join-is-conv}
 use Rattle.curves.specs.RemainderLaws.{remainder-is-left, remainder-length}
 use Rattle.curves.specs.DelayLaws.{delay-is-least}
-use Rattle.row.specs.Sums.{weigh}
-use Rattle.row.specs.Tandem.{Tandem, Path, size, server, flow, crosses, on, watched, bursts, rates}
+use Rattle.tandem.specs.Sums.{weigh}
+use Rattle.tandem.specs.Tandem.{Tandem, Path, size, server, flow, crosses, on, watched, bursts, rates}
 use Rattle.row.specs.Accepted.{Accepted}
 use Rattle.tree.specs.Stretch.{Stretch, none, then-server, then-group, span, groupWait, afterGroup, curve}
 use Rattle.tree.specs.Tree.{tree}
 use Rattle.tree.specs.Bound.{bound}
 use Rattle.tree.specs.Fits.{Fits}
 use Rattle.tree.specs.Meaning.{behind, meaning}
-use Rattle.row.specs.SumLaws.{total-at}
-use Rattle.row.specs.TandemLaws.{rates-or}
+use Rattle.tandem.specs.SumLaws.{total-at}
+use Rattle.tandem.specs.TandemLaws.{rates-or}
 use Rattle.tree.specs.PlanLaws.{stage-count}
 use Rattle.tree.specs.NestedLaws.{tree-fits}
 use Rattle.tree.specs.StretchLaws.{curve-rates}
@@ -55,7 +55,8 @@ module _ (row : Tandem) (extra : ℕ → ℕ) (room : (j : ℕ) → 0 < j → j 
   unfolding Fits span curve meaning serverShape afterGroup
   curve-is-meaning P i none hi hr h s = absurd (omega arith)
   curve-is-meaning P i (then-server p j) hi hr h s =
-      behind-is P i p (h .0) (curve-is-meaning P i p hi hr (h .0)) (serverShape (server row j .rate) (server row j .latency)) (serve (server row j .rate) (server row j .latency)) (omega arith)
+      behind-is P i p (h .0) (curve-is-meaning P i p hi hr (h .0)) (serverShape (server row j .rate) (server row j .latency))
+      (serve (server row j .rate) (server row j .latency)) (omega arith)
       (fun-ext (server-is-serve (server row j .rate) (server row j .latency)))
   curve-is-meaning P i (then-group p k g q) hi hr h s =
       behind-is P i p (h .0) (curve-is-meaning P i p hi hr (h .0)) (afterGroup row g (curve row extra q) (extra k)) (left (meaning row extra q) σ ρ θ)
@@ -72,20 +73,23 @@ module _ (row : Tandem) (extra : ℕ → ℕ) (room : (j : ℕ) → 0 < j → j 
       θ = groupWait row g (curve row extra q) (extra k)
 
       taken : 0 < span q → Fits row (λ f. P f || on row g f) (i + span p) q → ((f : ℕ) → P f ≡ true → on row g f ≡ false)
-          → (1 ≤ rates row (λ f. P f || on row g f) → Fits row (λ f. P f || on row g f) (i + span p) q → 0 < span q → valueAt (curve row extra q) ≡ meaning row extra q)
+          → (1 ≤ rates row (λ f. P f || on row g f) → Fits row (λ f. P f || on row g f) (i + span p) q → 0 < span q
+          → valueAt (curve row extra q) ≡ meaning row extra q)
           → valueAt (remainder (curve row extra q) σ ρ θ) ≡ left (meaning row extra q) σ ρ θ
       taken long fits apart r =
           let c = curve row extra q in
           let e = rates-or row P (on row g) apart in
           let z = curve-rates row extra room (λ f. P f || on row g f) (i + span p) q (omega arith) fits in
-          fun-ext (remainder-is-left c σ ρ θ (late g c (extra k)) (rates-weaken 1 (rates row (λ f. P f || on row g f)) (c .stages) (omega arith) z) (rates-weaken ρ (rates row (λ f. P f || on row g f)) (c .stages) (omega arith) z))
+          fun-ext (remainder-is-left c σ ρ θ (late g c (extra k)) (rates-weaken 1 (rates row (λ f. P f || on row g f)) (c .stages) (omega arith) z)
+          (rates-weaken ρ (rates row (λ f. P f || on row g f)) (c .stages) (omega arith) z))
           ∙ ap (λ (f : ℕ → ℕ). left f σ ρ θ) (r (omega arith) fits long)
 
 module _ (row : Tandem) (ok : Accepted row) (extra : ℕ → ℕ) where
   watched-rate : flow row 0 .rate ≤ rates row watched
   unfolding rates watched
   watched-rate =
-      let k : weigh (eqb 0 0) (flow row 0 .rate) ≤ rates row watched = total-at (length (row .flows)) 0 (λ f. weigh (eqb 0 f) (flow row f .rate)) (ok .sound .some) in
+      let k : weigh (eqb 0 0) (flow row 0 .rate) ≤ rates row watched =
+      total-at (length (row .flows)) 0 (λ f. weigh (eqb 0 f) (flow row f .rate)) (ok .sound .some) in
       k
 
   moves : 0 < flow row 0 .rate
@@ -96,7 +100,8 @@ module _ (row : Tandem) (ok : Accepted row) (extra : ℕ → ℕ) where
   root-is-meaning t =
       let fit = tree-fits row ok in
       ap (λ (f : ℕ → ℕ). f t)
-      (curve-is-meaning row extra (ok .sound .room) watched 1 (tree row) (omega arith) (omega (arith, watched-rate, moves)) (fit .0) (omega (arith, fit .1, ok .sound .long)))
+      (curve-is-meaning row extra (ok .sound .room) watched 1 (tree row) (omega arith) (omega (arith, watched-rate, moves)) (fit .0)
+      (omega (arith, fit .1, ok .sound .long)))
 
   -- "the least d such that for every s ≥ 0 the bucket at s is at most the curve at s + d"
   pub bound-is-least : Least (Covers (meaning row extra (tree row)) (flow row 0 .burst) (flow row 0 .rate)) (bound row extra (tree row))
@@ -107,4 +112,5 @@ module _ (row : Tandem) (ok : Accepted row) (extra : ℕ → ℕ) where
       let z = curve-rates row extra (ok .sound .room) watched 1 (tree row) (omega arith) (fit .0) in
       rw (← (fun-ext root-is-meaning))
       (delay-is-least c (flow row 0 .burst) (flow row 0 .rate) (omega (arith, stage-count row extra (tree row), fit .1, ok .sound .long)) (omega (arith, moves))
-      (rates-weaken 1 (rates row watched) (c .stages) (omega (arith, watched-rate, moves)) z) (rates-weaken (flow row 0 .rate) (rates row watched) (c .stages) watched-rate z))
+      (rates-weaken 1 (rates row watched) (c .stages) (omega (arith, watched-rate, moves)) z)
+      (rates-weaken (flow row 0 .rate) (rates row watched) (c .stages) watched-rate z))

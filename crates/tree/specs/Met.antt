@@ -9,21 +9,22 @@ use native.Mathlib.Omega.{arith}
 use lib.ListN.{getD}
 use borrow.Author.Tests.{lt-ltb, le-leb}
 use Rattle.curves.specs.Slots.{Covers, Least}
-use Rattle.curves.specs.SlotsLaws.{le-or-lt}
-use Rattle.row.specs.Sums.{total, any}
-use Rattle.row.specs.declared.Server.{Server}
-use Rattle.row.specs.declared.Flow.{Flow}
-use Rattle.row.specs.Tandem.{Tandem, server, flow, crosses, on, rates}
+use Rattle.ground.specs.OrderLaws.{le-or-lt}
+use Rattle.tandem.specs.Sums.{total, any}
+use Rattle.tandem.specs.declared.Server.{Server}
+use Rattle.tandem.specs.declared.Flow.{Flow}
+use Rattle.tandem.specs.Tandem.{Tandem, server, flow, crosses, on, rates}
 use Rattle.row.specs.Groups.{used, from, from-on, groups, reads}
 use Rattle.row.specs.Checks.{overlaps, notNested}
-use Rattle.row.specs.Accepted.{Lies, Accepted, Limits}
+use Rattle.tandem.specs.Sound.{Lies, Limits}
+use Rattle.row.specs.Accepted.{Accepted}
 use Rattle.tree.specs.Plan.{plan}
 use Rattle.tree.specs.Tree.{tree}
 use Rattle.tree.specs.Bound.{bound, extraOf, answerAt}
 use Rattle.tree.specs.Fine.{AllFine}
 use Rattle.tree.specs.Amounts.{sumOf}
 use Rattle.tree.specs.Meaning.{meaning}
-use Rattle.row.specs.SumLaws.{none-of}
+use Rattle.tandem.specs.SumLaws.{none-of}
 use Rattle.tree.specs.SizeLaws.{plan-fine}
 use Rattle.tree.specs.PruneLaws.{latenciesOf, delay-ge-sum}
 use Rattle.tree.specs.MeaningLaws.{bound-is-least}
@@ -50,7 +51,12 @@ nested8 f h a b x y = go (le-or-lt (flow row8 h .last) (flow row8 f .last))
     go : (flow row8 h .last ≤ flow row8 f .last) ⊎ (flow row8 f .last < flow row8 h .last) → flow row8 h .last ≤ flow row8 f .last
     go (inl k) = k
     go (inr k) =
-        let d : overlaps row8 f h ≡ true = rw (lt-ltb (flow row8 f .first) (flow row8 h .first) x, le-leb (flow row8 h .first) (flow row8 f .last) y, lt-ltb (flow row8 f .last) (flow row8 h .last) k) in
+        let d : overlaps row8 f h ≡ true =
+        rw (
+          lt-ltb (flow row8 f .first) (flow row8 h .first) x,
+          le-leb (flow row8 h .first) (flow row8 f .last) y,
+          lt-ltb (flow row8 f .last) (flow row8 h .last) k,
+        ) in
         absurd (true≢false (sym d ∙ apart))
 
 lies8 : (f : ℕ) → f < 4 → Lies row8 f

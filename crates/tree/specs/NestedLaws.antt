@@ -3,41 +3,38 @@
 use mathlib.Core.Path.{_≡_, refl, sym, ap, _∙_, subst, fun-ext}
 use mathlib.Core.Bool.{Bool, true, false, _||_, _&&_, not, true≢false, false≢true}
 use mathlib.Core.Logic.{_⊎_, inl, inr, _≢_}
-use mathlib.Core.List.{List, [], _∷_, _++_}
+use mathlib.Core.List.{List, [], _∷_}
 use Prim.Native.Nat.{ℕ, zero, suc, _+_, _≤_, _<_}
 use native.Mathlib.Omega.{arith}
 use lib.Dec.{ltb, eqb}
 use lib.ListN.{length}
 use borrow.Author.Tests.{ltb-true, lt-ltb, eqb-true, eq-eqb}
-use Rattle.curves.specs.SlotsLaws.{le-or-lt}
-use Rattle.row.specs.Sums.{any}
-use Rattle.row.specs.Tandem.{Tandem, Path, size, flow, crosses, on, watched}
-use Rattle.row.specs.Groups.{used, path, put, from, from-on, groups}
-use Rattle.row.specs.Accepted.{Lies, Accepted}
+use Rattle.ground.specs.OrderLaws.{le-or-lt}
+use Rattle.tandem.specs.Tandem.{Tandem, Path, size, flow, crosses, on, watched}
+use Rattle.row.specs.Groups.{path, groups}
+use Rattle.tandem.specs.Sound.{Lies}
+use Rattle.row.specs.Accepted.{Accepted}
+use Rattle.row.specs.Order.{later, Order}
+use Rattle.row.specs.OrderLaws.{later-real, order-groups, lone}
 use Rattle.tree.specs.Stretch.{Stretch, none, then-server, then-group, span}
-use Rattle.tree.specs.Tree.{Piece, single, whole, pick, walk, inside, top, tree}
+use Rattle.tree.specs.Tree.{Piece, single, whole, pick, stretchFrom, inside, top, tree}
 use Rattle.tree.specs.Fits.{Fits}
-use Rattle.row.specs.TestLaws.{or-left, or-right, or-cases, both-true, true-both, not-passed, same-test, decide}
-use Rattle.row.specs.SumLaws.{any-at, any-found}
-use Rattle.row.specs.TandemLaws.{on-is, is-on, crosses-is, is-crosses}
+use Rattle.tandem.specs.TestLaws.{or-left, or-right, or-cases, both-true, true-both, not-passed, same-test, decide}
+use Rattle.tandem.specs.TandemLaws.{on-is, crosses-is, is-crosses}
 
-walk-end : (n : ℕ) (t : ℕ → Piece) (p : Stretch) (j e : ℕ) → ltb e j ≡ true → walk (suc n) t p j e ≡ p
-unfolding walk
-walk-end n t p j e h = rw h
+stretch-end : (n : ℕ) (t : ℕ → Piece) (p : Stretch) (j e : ℕ) → ltb e j ≡ true → stretchFrom (suc n) t p j e ≡ p
+unfolding stretchFrom
+stretch-end n t p j e h = rw h
 
-walk-single : (n : ℕ) (t : ℕ → Piece) (p : Stretch) (j e : ℕ) → ltb e j ≡ false → t j ≡ single → walk (suc n) t p j e ≡ walk n t (then-server p j) (suc j) e
-unfolding walk
-walk-single n t p j e h k = rw (h, k)
+stretch-single : (n : ℕ) (t : ℕ → Piece) (p : Stretch) (j e : ℕ) → ltb e j ≡ false → t j ≡ single
+    → stretchFrom (suc n) t p j e ≡ stretchFrom n t (then-server p j) (suc j) e
+unfolding stretchFrom
+stretch-single n t p j e h k = rw (h, k)
 
-walk-whole : (n : ℕ) (t : ℕ → Piece) (p : Stretch) (j e k : ℕ) (g : Path) (q : Stretch) → ltb e j ≡ false → t j ≡ whole k g q
-    → walk (suc n) t p j e ≡ walk n t (then-group p k g q) (suc (g .last)) e
-unfolding walk
-walk-whole n t p j e k g q h l = rw (h, l)
-
--- flow f is in one of the groups
-unfoldable pub later : Tandem → List Path → ℕ → Bool
-later row [] f = false
-later row (g ∷ gs) f = on row g f || later row gs f
+stretch-whole : (n : ℕ) (t : ℕ → Piece) (p : Stretch) (j e k : ℕ) (g : Path) (q : Stretch) → ltb e j ≡ false → t j ≡ whole k g q
+    → stretchFrom (suc n) t p j e ≡ stretchFrom n t (then-group p k g q) (suc (g .last)) e
+unfolding stretchFrom
+stretch-whole n t p j e k g q h l = rw (h, l)
 
 -- the flows that cross server i and are in none of the groups
 unfoldable pub outside : Tandem → List Path → ℕ → ℕ → Bool
@@ -51,26 +48,10 @@ false-of-not true h = absurd (false≢true h)
 false-of-not false h = refl
 
 module _ (row : Tandem) (ok : Accepted row) where
-  -- groups gs stand in order: each has a flow, and comes before those after it
-  unfoldable pub Order : List Path → Type 0
-  Order [] = Unit {0}
-  Order (g ∷ gs) = ((w : ℕ) × (on row g w ≡ true) × (g .first ≤ g .last))
-      × ((h : ℕ) → later row gs h ≡ true → (g .first < flow row h .first) ⊎ ((g .first ≡ flow row h .first) × (flow row h .last < g .last)))
-      × Order gs
-
   -- flows in none of the groups come before those that are
   unfoldable pub Outer : List Path → Type 0
   Outer gs = (f h : ℕ) → f < length (row .flows) → flow row f .first ≤ flow row f .last → later row gs f ≡ false → later row gs h ≡ true
       → (flow row f .first < flow row h .first) ⊎ ((flow row f .first ≡ flow row h .first) × (flow row h .last ≤ flow row f .last))
-
-  pub later-real : (gs : List Path) (f : ℕ) → later row gs f ≡ true → (0 < f) × (f < length (row .flows))
-  unfolding later
-  later-real [] f h = absurd (false≢true h)
-  later-real (g ∷ gs) f h = go (or-cases (on row g f) (later row gs f) h) (later-real gs f)
-    where
-      go : (on row g f ≡ true) ⊎ (later row gs f ≡ true) → (later row gs f ≡ true → (0 < f) × (f < length (row .flows))) → (0 < f) × (f < length (row .flows))
-      go (inl k) r = let o = on-is row g f k in (o .0, o .1)
-      go (inr k) r = r k
 
   -- what begins at server j among the groups gs
   record Whole (gs : List Path) (j : ℕ) (g : Path) (q : Stretch) : Type 0 where
@@ -107,7 +88,8 @@ module _ (row : Tandem) (ok : Accepted row) where
     server-flows j hi hl clean alone f = go (decide (later row gs f))
       where
         go : (later row gs f ≡ true) ⊎ (later row gs f ≡ false) → crosses row f j ≡ (crosses row f i && not (later row gs f))
-        go (inl e) = same-test (crosses row f j) (crosses row f i && not (later row gs f)) (λ k. absurd (never k)) (λ k. absurd (true≢false (sym e ∙ false-of-not (later row gs f) (both-true (crosses row f i) (not (later row gs f)) k .1))))
+        go (inl e) = same-test (crosses row f j) (crosses row f i && not (later row gs f)) (λ k. absurd (never k))
+            (λ k. absurd (true≢false (sym e ∙ false-of-not (later row gs f) (both-true (crosses row f i) (not (later row gs f)) k .1))))
           where
             never : crosses row f j ≡ true → ⊥
             never k = less (le-or-lt j (flow row f .first))
@@ -115,7 +97,9 @@ module _ (row : Tandem) (ok : Accepted row) where
                 less : (j ≤ flow row f .first) ⊎ (flow row f .first < j) → ⊥
                 less (inl x) = let c = crosses-is row f j k in alone f e (omega (arith, c .1))
                 less (inr x) = let c = crosses-is row f j k in omega (arith, c .2, clean f e x)
-        go (inr e) = node .level f j e hi hl ∙ same-test (crosses row f i) (crosses row f i && not (later row gs f)) (λ k. true-both (crosses row f i) (not (later row gs f)) k (not-false (later row gs f) e)) (λ k. both-true (crosses row f i) (not (later row gs f)) k .0)
+        go (inr e) = node .level f j e hi hl ∙ same-test (crosses row f i) (crosses row f i && not (later row gs f))
+            (λ k. true-both (crosses row f i) (not (later row gs f)) k (not-false (later row gs f) e))
+            (λ k. both-true (crosses row f i) (not (later row gs f)) k .0)
 
     group-flows : (j : ℕ) → i ≤ j → j ≤ l → Clean gs j → (g : Path) (q : Stretch) (x : Whole gs j g q)
         → (f : ℕ) → (outside row gs i f || on row g f) ≡ outside row (x .after) j f
@@ -146,7 +130,8 @@ module _ (row : Tandem) (ok : Accepted row) where
             a : later row (x .after) f ≡ false
             a = false-of-not (later row (x .after) f) (both-true (crosses row f j) (not (later row (x .after) f)) k .1)
 
-            inner : ((later row (x .after) f ≡ true) ⊎ (on row g f ≡ true)) ⊎ (flow row f .first < j) → later row gs f ≡ true → (outside row gs i f || on row g f) ≡ true
+            inner : ((later row (x .after) f ≡ true) ⊎ (on row g f ≡ true)) ⊎ (flow row f .first < j) → later row gs f ≡ true
+                → (outside row gs i f || on row g f) ≡ true
             inner (inl (inl y)) e = absurd (true≢false (sym y ∙ a))
             inner (inl (inr y)) e = or-right (outside row gs i f) (on row g f) y
             inner (inr y) e = let b = crosses-is row f j c in absurd (omega (arith, clean f e y, b .2))
@@ -168,7 +153,8 @@ module _ (row : Tandem) (ok : Accepted row) where
 
         step₂ : j ≤ flow row f .first → (flow row f .first ≤ j) ⊎ (j < flow row f .first) → flow row f .last < suc (g .last)
         step₂ k (inl m) = let y = x .longest f e (omega arith) in omega arith
-        step₂ k (inr m) = let y = ok .nested w f (o .1) (later-real gs f e .1) (omega (arith, o .2, x .begins)) (omega (arith, o .3)) in omega (arith, o .3)
+        step₂ k (inr m) = let y = ok .nested w f (o .1) (later-real row ok gs f e .1) (omega (arith, o .2, x .begins)) (omega (arith, o .3)) in omega
+            (arith, o .3)
 
         step : (j ≤ flow row f .first) ⊎ (flow row f .first < j) → flow row f .last < suc (g .last)
         step (inl k) = step₂ k (le-or-lt (flow row f .first) j)
@@ -185,20 +171,23 @@ module _ (row : Tandem) (ok : Accepted row) where
     Goal : Stretch → Type 0
     Goal r = (Fits row (outside row gs i) i r) × (i + span r ≡ suc l)
 
-    Walked : ℕ → (ℕ → Piece) → Type 0
-    Walked n t = (p : Stretch) (j : ℕ) → Fits row (outside row gs i) i p → i + span p ≡ j → j ≤ suc l → Clean gs j → suc l ≤ j + n → Goal (walk n t p j l)
+    Stretched : ℕ → (ℕ → Piece) → Type 0
+    Stretched n t = (p : Stretch) (j : ℕ) → Fits row (outside row gs i) i p → i + span p ≡ j → j ≤ suc l → Clean gs j → suc l ≤ j + n
+        → Goal (stretchFrom n t p j l)
 
-    walk-step : (n : ℕ) (t : ℕ → Piece) → ((j : ℕ) → Begins gs j (t j)) → Walked n t → Walked (suc n) t
-    unfolding Walked Goal Begins span Fits outside
-    walk-step n t good rec p j h e hj clean enough = go (le-or-lt j l)
+    stretch-step : (n : ℕ) (t : ℕ → Piece) → ((j : ℕ) → Begins gs j (t j)) → Stretched n t → Stretched (suc n) t
+    unfolding Stretched Goal Begins span Fits outside
+    stretch-step n t good rec p j h e hj clean enough = go (le-or-lt j l)
       where
-        piece : j ≤ l → ltb l j ≡ false → (x : Piece) → t j ≡ x → Begins gs j x → Goal (walk (suc n) t p j l)
+        piece : j ≤ l → ltb l j ≡ false → (x : Piece) → t j ≡ x → Begins gs j x → Goal (stretchFrom (suc n) t p j l)
         piece k z single y b =
-            subst Goal (sym (walk-single n t p j l z y))
-            (rec (then-server p j) (suc j) (h, sym e, omega (arith, node .last-in), server-flows j (omega arith) k clean b) (omega arith) (omega arith) (server-clean j clean b) (omega arith))
+            subst Goal (sym (stretch-single n t p j l z y))
+            (rec (then-server p j) (suc j) (h, sym e, omega (arith, node .last-in), server-flows j (omega arith) k clean b) (omega arith)
+            (omega arith) (server-clean j clean b) (omega arith))
         piece k z (whole m g q) y b =
-            subst Goal (sym (walk-whole n t p j l m g q z y))
-            (rec (then-group p m g q) (suc (g .last)) (h, b .some, within, apart, b .begins ∙ sym e, omega (arith, b .ends), b .flow-on) (omega (arith, b .ends)) (omega (arith, stays)) (group-clean j clean g q b) (omega (arith, b .ends, b .some)))
+            subst Goal (sym (stretch-whole n t p j l m g q z y))
+            (rec (then-group p m g q) (suc (g .last)) (h, b .some, within, apart, b .begins ∙ sym e, omega (arith, b .ends), b .flow-on)
+            (omega (arith, b .ends)) (omega (arith, stays)) (group-clean j clean g q b) (omega (arith, b .ends, b .some)))
           where
             flows : (λ f. outside row gs i f || on row g f) ≡ outside row (b .after) j
             flows = fun-ext (group-flows j (omega arith) k clean g q b)
@@ -207,7 +196,8 @@ module _ (row : Tandem) (ok : Accepted row) where
             within = rw (flows, e) (b .fits)
 
             apart : (f : ℕ) → outside row gs i f ≡ true → on row g f ≡ false
-            apart f x = not-passed (on row g f) (λ o. true≢false (sym (b .mine f o .0) ∙ false-of-not (later row gs f) (both-true (crosses row f i) (not (later row gs f)) x .1)))
+            apart f x = not-passed (on row g f)
+                (λ o. true≢false (sym (b .mine f o .0) ∙ false-of-not (later row gs f) (both-true (crosses row f i) (not (later row gs f)) x .1)))
 
             stays : g .last ≤ l
             stays =
@@ -215,16 +205,16 @@ module _ (row : Tandem) (ok : Accepted row) where
                 let o = on-is row g w (b .flow-on .1) in
                 omega (arith, o .3, node .stay w (b .mine w (b .flow-on .1) .0) (omega (arith, o .2, b .begins)))
 
-        go : (j ≤ l) ⊎ (l < j) → Goal (walk (suc n) t p j l)
-        go (inr k) = subst Goal (sym (walk-end n t p j l (lt-ltb l j k))) (h, omega arith)
+        go : (j ≤ l) ⊎ (l < j) → Goal (stretchFrom (suc n) t p j l)
+        go (inr k) = subst Goal (sym (stretch-end n t p j l (lt-ltb l j k))) (h, omega arith)
         go (inl k) = piece k (not-passed (ltb l j) (λ z. let y = ltb-true l j z in omega arith)) (t j) refl (good j)
 
-    walked : (n : ℕ) (t : ℕ → Piece) → ((j : ℕ) → Begins gs j (t j)) → Walked n t
-    unfolding Walked Goal walk
-    walked zero t good = λ p j h e hj clean enough. (h, omega arith)
-    walked (suc n) t good = walk-step n t good (walked n t good)
+    stretched : (n : ℕ) (t : ℕ → Piece) → ((j : ℕ) → Begins gs j (t j)) → Stretched n t
+    unfolding Stretched Goal stretchFrom
+    stretched zero t good = λ p j h e hj clean enough. (h, omega arith)
+    stretched (suc n) t good = stretch-step n t good (stretched n t good)
 
-  module _ (g : Path) (gs : List Path) (order : Order (g ∷ gs)) (outer : Outer (g ∷ gs)) where
+  module _ (g : Path) (gs : List Path) (order : Order row (g ∷ gs)) (outer : Outer (g ∷ gs)) where
     chosen : ℕ
     unfolding Order
     chosen = order .0 .0
@@ -281,7 +271,8 @@ module _ (row : Tandem) (ok : Accepted row) where
         turn (inl k) p = inl (omega (arith, p .2))
         turn (inr k) p = inr (omega (arith, p .2, k .0), omega (arith, p .3, k .1))
 
-        go : (on row g f ≡ true) ⊎ (on row g f ≡ false) → (flow row f .first < flow row h .first) ⊎ ((flow row f .first ≡ flow row h .first) × (flow row h .last ≤ flow row f .last))
+        go : (on row g f ≡ true) ⊎ (on row g f ≡ false) → (flow row f .first < flow row h .first)
+            ⊎ ((flow row f .first ≡ flow row h .first) × (flow row h .last ≤ flow row f .last))
         go (inl k) = turn (comes-after h l) (on-is row g f k)
         go (inr k) = outer f h r p (rw (k, e)) (or-right (on row g h) (later row gs h) l)
 
@@ -327,14 +318,14 @@ module _ (row : Tandem) (ok : Accepted row) where
           where
             step : (g .first < flow row h .first) ⊎ ((g .first ≡ flow row h .first) × (flow row h .last < g .last)) → flow row h .last ≤ g .last
             step (inl k) =
-                let n = ok .nested chosen h (o .1) (later-real gs h e .1) (omega (arith, o .2)) (omega (arith, o .3)) in
+                let n = ok .nested chosen h (o .1) (later-real row ok gs h e .1) (omega (arith, o .2)) (omega (arith, o .3)) in
                 omega (arith, n, o .3)
             step (inr k) = omega (arith, k .1)
 
     -- the piece of g itself
     own : (k : ℕ) → ((j : ℕ) → Begins gs j (top row k gs j))
-        → Whole (g ∷ gs) (g .first) g (walk (size row) (top row k gs) none (g .first) (g .last))
-    unfolding later Walked Goal Fits span Clean
+        → Whole (g ∷ gs) (g .first) g (stretchFrom (size row) (top row k gs) none (g .first) (g .last))
+    unfolding later Stretched Goal Fits span Clean
     own k good = record {
       after = gs;
       begins = refl;
@@ -366,8 +357,8 @@ module _ (row : Tandem) (ok : Accepted row) where
         split f (inl e) = inl (inr e)
         split f (inr e) = inl (inl e)
 
-        r : Goal gs (g .first) (g .last) node-of (walk (size row) (top row k gs) none (g .first) (g .last))
-        r = walked gs (g .first) (g .last) node-of (size row) (top row k gs) good none (g .first) tt (omega arith) (omega (arith, o .2, o .3, v .1))
+        r : Goal gs (g .first) (g .last) node-of (stretchFrom (size row) (top row k gs) none (g .first) (g .last))
+        r = stretched gs (g .first) (g .last) node-of (size row) (top row k gs) good none (g .first) tt (omega arith) (omega (arith, o .2, o .3, v .1))
             (λ f e h. absurd (omega (arith, node-of .start f e))) (omega (arith, o .2, o .3, v .0, v .2))
 
     -- a piece that begins elsewhere stays what it is when g is put in front
@@ -406,146 +397,23 @@ module _ (row : Tandem) (ok : Accepted row) where
         split f (inl e) = let o = on-is row g f e in inr (omega (arith, o .2, low))
         split f (inr e) = b .up f e
 
-  begins-all : (gs : List Path) → Order gs → Outer gs → (k j : ℕ) → Begins gs j (top row k gs j)
+  begins-all : (gs : List Path) → Order row gs → Outer gs → (k j : ℕ) → Begins gs j (top row k gs j)
   unfolding Order top Begins later
   begins-all [] order outer k j = λ f e. absurd (false≢true e)
   begins-all (g ∷ gs) order outer k j = go (decide (eqb (g .first) j)) (begins-all gs (order .2) (outer-tail g gs order outer) (suc k))
     where
       go : (eqb (g .first) j ≡ true) ⊎ (eqb (g .first) j ≡ false) → ((j : ℕ) → Begins gs j (top row (suc k) gs j))
-          → Begins (g ∷ gs) j (pick (eqb (g .first) j) (whole k g (walk (size row) (top row (suc k) gs) none (g .first) (g .last))) (top row (suc k) gs j))
-      go (inl e) r = rw e (subst (λ (j : ℕ). Whole (g ∷ gs) j g (walk (size row) (top row (suc k) gs) none (g .first) (g .last))) (eqb-true (g .first) j e) (own g gs order outer (suc k) r))
+          → Begins (g ∷ gs) j (pick (eqb (g .first) j) (whole k g (stretchFrom (size row) (top row (suc k) gs) none (g .first) (g .last)))
+          (top row (suc k) gs j))
+      go (inl e) r = rw e (subst (λ (j : ℕ). Whole (g ∷ gs) j g (stretchFrom (size row) (top row (suc k) gs) none (g .first) (g .last)))
+          (eqb-true (g .first) j e) (own g gs order outer (suc k) r))
       go (inr e) r = rw e (widen g gs order outer j (λ d. true≢false (sym (eq-eqb (g .first) j d) ∙ e)) (top row (suc k) gs j) (r j))
-
-  later-append : (l m : List Path) (f : ℕ) → later row (l ++ m) f ≡ true → (later row l f ≡ true) ⊎ (later row m f ≡ true)
-  unfolding later
-  later-append [] m f h = inr h
-  later-append (g ∷ l) m f h = go (or-cases (on row g f) (later row (l ++ m) f) h) (later-append l m f)
-    where
-      go : (on row g f ≡ true) ⊎ (later row (l ++ m) f ≡ true) → (later row (l ++ m) f ≡ true → (later row l f ≡ true) ⊎ (later row m f ≡ true))
-          → ((on row g f || later row l f) ≡ true) ⊎ (later row m f ≡ true)
-      go (inl k) r = inl (or-left (on row g f) (later row l f) k)
-      go (inr k) r = turn (r k)
-        where
-          turn : (later row l f ≡ true) ⊎ (later row m f ≡ true) → ((on row g f || later row l f) ≡ true) ⊎ (later row m f ≡ true)
-          turn (inl x) = inl (or-right (on row g f) (later row l f) x)
-          turn (inr x) = inr x
-
-  later-left : (l m : List Path) (f : ℕ) → later row l f ≡ true → later row (l ++ m) f ≡ true
-  unfolding later
-  later-left [] m f h = absurd (false≢true h)
-  later-left (g ∷ l) m f h = go (or-cases (on row g f) (later row l f) h) (later-left l m f)
-    where
-      go : (on row g f ≡ true) ⊎ (later row l f ≡ true) → (later row l f ≡ true → later row (l ++ m) f ≡ true) → (on row g f || later row (l ++ m) f) ≡ true
-      go (inl k) r = or-left (on row g f) (later row (l ++ m) f) k
-      go (inr k) r = or-right (on row g f) (later row (l ++ m) f) (r k)
-
-  later-right : (l m : List Path) (f : ℕ) → later row m f ≡ true → later row (l ++ m) f ≡ true
-  unfolding later
-  later-right [] m f h = h
-  later-right (g ∷ l) m f h = or-right (on row g f) (later row (l ++ m) f) (later-right l m f h)
-
-  -- the groups from server i: their flows begin there, and end by m
-  from-is : (i m f : ℕ) → later row (from row i m) f ≡ true → (flow row f .first ≡ i) × (flow row f .last ≤ m)
-  unfolding from later
-  from-is i zero f h = absurd (false≢true h)
-  from-is i (suc m) f h = go (used row (path i (suc m))) h (from-is i m f)
-    where
-      go : (b : Bool) → later row (put b (path i (suc m)) (from row i m)) f ≡ true → (later row (from row i m) f ≡ true → (flow row f .first ≡ i) × (flow row f .last ≤ m))
-          → (flow row f .first ≡ i) × (flow row f .last ≤ suc m)
-      go false h r = let x = r h in (x .0, omega (arith, x .1))
-      go true h r = turn (or-cases (on row (path i (suc m)) f) (later row (from row i m) f) h)
-        where
-          turn : (on row (path i (suc m)) f ≡ true) ⊎ (later row (from row i m) f ≡ true) → (flow row f .first ≡ i) × (flow row f .last ≤ suc m)
-          turn (inl k) = let o = on-is row (path i (suc m)) f k in (o .2, omega (arith, o .3))
-          turn (inr k) = let x = r k in (x .0, omega (arith, x .1))
-
-  from-on-is : (n i f : ℕ) → later row (from-on row i n) f ≡ true → i ≤ flow row f .first
-  unfolding from-on later
-  from-on-is zero i f h = absurd (false≢true h)
-  from-on-is (suc n) i f h = go (later-append (from row i (size row)) (from-on row (suc i) n) f h) (from-on-is n (suc i) f)
-    where
-      go : (later row (from row i (size row)) f ≡ true) ⊎ (later row (from-on row (suc i) n) f ≡ true) → (later row (from-on row (suc i) n) f ≡ true → suc i ≤ flow row f .first) → i ≤ flow row f .first
-      go (inl k) r = omega (arith, from-is i (size row) f k .0)
-      go (inr k) r = omega (arith, r k)
-
-  from-has : (m f : ℕ) → 0 < f → f < length (row .flows) → 0 < flow row f .last → flow row f .last ≤ m → later row (from row (flow row f .first) m) f ≡ true
-  unfolding from later used
-  from-has zero f h k a b = absurd (omega arith)
-  from-has (suc m) f h k a b = go (le-or-lt (flow row f .last) m) (from-has m f h k a)
-    where
-      i : ℕ
-      i = flow row f .first
-
-      keep-on : (c : Bool) → later row (from row i m) f ≡ true → later row (put c (path i (suc m)) (from row i m)) f ≡ true
-      keep-on true x = or-right (on row (path i (suc m)) f) (later row (from row i m) f) x
-      keep-on false x = x
-
-      go : (flow row f .last ≤ m) ⊎ (m < flow row f .last) → (flow row f .last ≤ m → later row (from row i m) f ≡ true)
-          → later row (put (any (length (row .flows)) (on row (path i (suc m)))) (path i (suc m)) (from row i m)) f ≡ true
-      go (inl x) r = keep-on (any (length (row .flows)) (on row (path i (suc m)))) (r x)
-      go (inr x) r =
-          let o : on row (path i (suc m)) f ≡ true = is-on row (path i (suc m)) f h k refl (omega arith) in
-          rw (any-at (length (row .flows)) f (on row (path i (suc m))) k o) (or-left (on row (path i (suc m)) f) (later row (from row i m) f) o)
-
-  from-on-has : (n i f : ℕ) → 0 < f → f < length (row .flows) → flow row f .first ≤ flow row f .last → i ≤ flow row f .first → flow row f .first < i + n → later row (from-on row i n) f ≡ true
-  unfolding from-on later
-  from-on-has zero i f h k p a b = absurd (omega arith)
-  from-on-has (suc n) i f h k p a b = go (le-or-lt (flow row f .first) i) (from-on-has n (suc i) f h k p)
-    where
-      go : (flow row f .first ≤ i) ⊎ (i < flow row f .first) → (suc i ≤ flow row f .first → flow row f .first < suc i + n → later row (from-on row (suc i) n) f ≡ true)
-          → later row (from row i (size row) ++ from-on row (suc i) n) f ≡ true
-      go (inl x) r =
-          let v = ok .sound .paths f k in
-          let e : flow row f .first ≡ i = omega arith in
-          let y : later row (from row i (size row)) f ≡ true = subst (λ (z : ℕ). later row (from row z (size row)) f ≡ true) e (from-has (size row) f h k (omega (arith, v .0)) (v .1)) in
-          later-left (from row i (size row)) (from-on row (suc i) n) f y
-      go (inr x) r = later-right (from row i (size row)) (from-on row (suc i) n) f (r x (omega arith))
-
-  order-from : (i m : ℕ) (rest : List Path) → i ≤ size row → Order rest → ((f : ℕ) → later row rest f ≡ true → i < flow row f .first) → Order (from row i m ++ rest)
-  unfolding from Order used
-  order-from i zero rest small o h = o
-  order-from i (suc m) rest small o h = go (any (length (row .flows)) (on row (path i (suc m)))) refl (order-from i m rest small o h)
-    where
-      go : (b : Bool) → any (length (row .flows)) (on row (path i (suc m))) ≡ b → Order (from row i m ++ rest) → Order (put b (path i (suc m)) (from row i m) ++ rest)
-      go false e r = r
-      go true e r = (let w = any-found (length (row .flows)) (on row (path i (suc m))) e in (w .0, w .2, real (w .0) (w .2)), λ f k. turn f (later-append (from row i m) rest f k), r)
-        where
-          real : (w : ℕ) → on row (path i (suc m)) w ≡ true → i ≤ suc m
-          real w k = let x = on-is row (path i (suc m)) w k in step x (ok .sound .paths w (x .1) .2)
-            where
-              step : (0 < w) × (w < length (row .flows)) × (flow row w .first ≡ i) × (flow row w .last ≡ suc m)
-                  → (flow row w .first ≤ flow row w .last) ⊎ ((flow row w .last ≡ 0) ⊎ (size row < flow row w .first)) → i ≤ suc m
-              step x (inl a) = omega (arith, x .2, x .3)
-              step x (inr (inl a)) = absurd (omega (arith, x .3))
-              step x (inr (inr a)) = absurd (omega (arith, x .2))
-
-          turn : (f : ℕ) → (later row (from row i m) f ≡ true) ⊎ (later row rest f ≡ true) → (i < flow row f .first) ⊎ ((i ≡ flow row f .first) × (flow row f .last < suc m))
-          turn f (inl k) = let x = from-is i m f k in inr (sym (x .0), omega (arith, x .1))
-          turn f (inr k) = inl (h f k)
-
-  order-from-on : (n i : ℕ) → i + n ≤ suc (size row) → Order (from-on row i n)
-  unfolding from-on Order
-  order-from-on zero i h = tt
-  order-from-on (suc n) i h = order-from i (size row) (from-on row (suc i) n) (omega arith) (order-from-on n (suc i) (omega arith)) (from-on-is n (suc i))
-
-  pub order-groups : Order (groups row)
-  unfolding groups
-  order-groups = order-from-on (size row) 1 (omega arith)
-
-  -- a flow of the row that is in no group is the watched one
-  lone : (f : ℕ) → f < length (row .flows) → flow row f .first ≤ flow row f .last → later row (groups row) f ≡ false → f ≡ 0
-  unfolding groups
-  lone f h p e = go (le-or-lt f 0)
-    where
-      go : (f ≤ 0) ⊎ (0 < f) → f ≡ 0
-      go (inl k) = omega arith
-      go (inr k) = let v = ok .sound .paths f h in absurd (true≢false (sym (from-on-has (size row) 1 f k h p (v .0) (omega (arith, v .1))) ∙ e))
 
   pub outer-all : Outer (groups row)
   unfolding Outer
   outer-all f h r p e k =
-      let z = lone f r p e in
-      let v = ok .sound .paths h (later-real (groups row) h k .1) in
+      let z = lone row ok f r p e in
+      let v = ok .sound .paths h (later-real row ok (groups row) h k .1) in
       go z v (le-or-lt (flow row h .first) 1)
     where
       go : f ≡ 0 → Lies row h
@@ -557,8 +425,8 @@ module _ (row : Tandem) (ok : Accepted row) where
   root : Node (groups row) 1 (size row)
   root = record {
     level = level;
-    start = λ h e. ok .sound .paths h (later-real (groups row) h e .1) .0;
-    stay = λ h e l. ok .sound .paths h (later-real (groups row) h e .1) .1;
+    start = λ h e. ok .sound .paths h (later-real row ok (groups row) h e .1) .0;
+    stay = λ h e l. ok .sound .paths h (later-real row ok (groups row) h e .1) .1;
     last-in = omega arith;
   }
     where
@@ -569,10 +437,10 @@ module _ (row : Tandem) (ok : Accepted row) where
           all k z x y = rw z (is-crosses row 0 k (ok .sound .some) (omega (arith, ok .sound .enters)) (omega (arith, ok .sound .leaves)))
 
           there : crosses row f j ≡ true → crosses row f 1 ≡ true
-          there k = let c = crosses-is row f j k in all 1 (lone f (c .0) (omega (arith, c .1, c .2)) e) (omega arith) (omega arith)
+          there k = let c = crosses-is row f j k in all 1 (lone row ok f (c .0) (omega (arith, c .1, c .2)) e) (omega arith) (omega arith)
 
           back : crosses row f 1 ≡ true → crosses row f j ≡ true
-          back k = let c = crosses-is row f 1 k in all j (lone f (c .0) (omega (arith, c .1, c .2)) e) a b
+          back k = let c = crosses-is row f 1 k in all j (lone row ok f (c .0) (omega (arith, c .1, c .2)) e) a b
 
   root-flows : (f : ℕ) → outside row (groups row) 1 f ≡ watched f
   unfolding outside watched
@@ -582,14 +450,16 @@ module _ (row : Tandem) (ok : Accepted row) where
       there k =
           let b = both-true (crosses row f 1) (not (later row (groups row) f)) k in
           let c = crosses-is row f 1 (b .0) in
-          eq-eqb 0 f (sym (lone f (c .0) (omega (arith, c .1, c .2)) (false-of-not (later row (groups row) f) (b .1))))
+          eq-eqb 0 f (sym (lone row ok f (c .0) (omega (arith, c .1, c .2)) (false-of-not (later row (groups row) f) (b .1))))
 
       back : eqb 0 f ≡ true → (crosses row f 1 && not (later row (groups row) f)) ≡ true
       back k =
           let z = eqb-true 0 f k in
           true-both (crosses row f 1) (not (later row (groups row) f))
-          (subst (λ (x : ℕ). crosses row x 1 ≡ true) z (is-crosses row 0 1 (ok .sound .some) (omega (arith, ok .sound .enters)) (omega (arith, ok .sound .leaves, ok .sound .long))))
-          (not-false (later row (groups row) f) (not-passed (later row (groups row) f) (λ e. let x = later-real (groups row) f e in omega (arith, x .0))))
+          (subst (λ (x : ℕ). crosses row x 1 ≡ true) z
+          (is-crosses row 0 1 (ok .sound .some) (omega (arith, ok .sound .enters)) (omega (arith, ok .sound .leaves, ok .sound .long))))
+          (not-false (later row (groups row) f)
+          (not-passed (later row (groups row) f) (λ e. let x = later-real row ok (groups row) f e in omega (arith, x .0))))
 
   -- "The watched flow crosses all of them": the tree is the stretch from the first server to the last
   tree-whole : tree row ≡ inside row (top row 0 (groups row)) (path 1 (size row))
@@ -598,15 +468,16 @@ module _ (row : Tandem) (ok : Accepted row) where
 
   -- the main law: the tree fits the row, for the watched flow, and spans it
   pub tree-fits : (Fits row watched 1 (tree row)) × (span (tree row) ≡ size row)
-  unfolding Walked Goal Fits span Clean groups
+  unfolding Stretched Goal Fits span Clean groups
   tree-fits =
       let r : Goal (groups row) 1 (size row) root (inside row (top row 0 (groups row)) (path 1 (size row))) =
-      walked (groups row) 1 (size row) root (size row) (top row 0 (groups row)) (begins-all (groups row) order-groups outer-all 0) none 1 tt (omega arith) (omega arith)
+      stretched (groups row) 1 (size row) root (size row) (top row 0 (groups row)) (begins-all (groups row) (order-groups row ok) outer-all 0) none 1 tt
+      (omega arith) (omega arith)
       (λ f e h. absurd (omega (arith, root .start f e))) (omega arith) in
       rw tree-whole (rw (← (fun-ext root-flows)) (r .0), omega (arith, r .1))
 
   -- and so does the stretch of each group: of the groups behind it in the order, those inside its path are taken out
-  pub node-fits : (g : Path) (gs : List Path) → Order (g ∷ gs) → Outer (g ∷ gs) → (k : ℕ)
+  pub node-fits : (g : Path) (gs : List Path) → Order row (g ∷ gs) → Outer (g ∷ gs) → (k : ℕ)
       → Fits row (outside row gs (g .first)) (g .first) (inside row (top row k gs) g) × (g .first + span (inside row (top row k gs) g) ≡ suc (g .last))
   unfolding Order own
   node-fits g gs order outer k =
@@ -614,7 +485,7 @@ module _ (row : Tandem) (ok : Accepted row) where
       (x .fits, x .ends)
 
   -- a group's own flows cross the whole of its stretch and are in no group inside it
-  pub own-outside : (g : Path) (gs : List Path) → Order (g ∷ gs) → (f : ℕ) → on row g f ≡ true → outside row gs (g .first) f ≡ true
+  pub own-outside : (g : Path) (gs : List Path) → Order row (g ∷ gs) → (f : ℕ) → on row g f ≡ true → outside row gs (g .first) f ≡ true
   unfolding Order outside
   own-outside g gs order f e =
       let o = on-is row g f e in

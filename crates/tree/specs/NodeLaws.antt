@@ -8,8 +8,8 @@ use borrow.Author.Tests.{lt-ltb, le-ltb}
 use lib.ListN.{length, take, drop, getD}
 use lib.Seq.{drop-nil, drop-cons, getD-take}
 use Rattle.curves.specs.Curve.{Shape, joined}
-use Rattle.row.specs.declared.Server.{Server}
-use Rattle.row.specs.declared.Flow.{Flow}
+use Rattle.tandem.specs.declared.Server.{Server}
+use Rattle.tandem.specs.declared.Flow.{Flow}
 use Rattle.tree.specs.Plan.{Node, Top, alone, over, serverCurve, along, nodeCurve, nodeOf, headOf, tailOf, plan}
 use Rattle.tree.specs.Fine.{Fine, AllFine}
 use Rattle.tree.specs.Planned.{noFlow}

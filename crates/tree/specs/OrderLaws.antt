@@ -7,22 +7,21 @@ use mathlib.Core.Logic.{_⊎_, inl, inr}
 use mathlib.Core.List.{List, [], _∷_, map}
 use Prim.Native.Nat.{ℕ, _≤_, _<_}
 use native.Mathlib.Omega.{arith}
-use Rattle.row.specs.declared.Flow.{Flow}
-use Rattle.row.specs.Tandem.{Tandem, Path, size, flow, on}
-use Rattle.row.specs.TandemLaws.{on-is}
-use Rattle.row.specs.TestLaws.{or-left, or-right, le-or-lt}
+use Rattle.tandem.specs.declared.Flow.{Flow}
+use Rattle.tandem.specs.Tandem.{Tandem, Path, size, flow, on}
+use Rattle.tandem.specs.TandemLaws.{on-is}
+use Rattle.ground.specs.OrderLaws.{le-or-lt}
+use Rattle.tandem.specs.TestLaws.{or-left, or-right}
 use Rattle.row.specs.Groups.{groups, grouped, reads}
 use Rattle.row.specs.Accepted.{Accepted}
-use Rattle.tree.specs.Searched.{Each}
-use Rattle.tree.specs.NestedLaws.{later, Order, order-groups}
+use Rattle.ground.specs.Each.{Each}
+use Rattle.ground.specs.EachLaws.{each-mapped}
+use Rattle.row.specs.Order.{later, Order}
+use Rattle.row.specs.OrderLaws.{order-groups}
 use Rattle.tree.specs.Ordered.{Placed, After, Ordered}
 
-each-map : {A B : Type 0} (P : B → Type 0) (f : A → B) (l : List A) → Each (λ x. P (f x)) l → Each P (map f l)
-each-map P f [] e = tt
-each-map P f (x ∷ l) e = (e .0, each-map P f l (e .1))
-
 module _ (row : Tandem) (ok : Accepted row) where
-  group-placed : (gs : List Path) → Order row ok gs → Each (λ g. Placed (size row) (grouped row g)) gs
+  group-placed : (gs : List Path) → Order row gs → Each (λ g. Placed (size row) (grouped row g)) gs
   unfolding Order grouped
   group-placed [] o = tt
   group-placed (g ∷ gs) o =
@@ -34,8 +33,13 @@ module _ (row : Tandem) (ok : Accepted row) where
   pub reads-placed : Each (Placed (size row)) (reads row)
   unfolding reads
   reads-placed = (
-    record { enters = omega (arith, ok .sound .enters); onward = omega (arith, ok .sound .enters, ok .sound .leaves, ok .sound .long); leaves = omega (arith, ok .sound .leaves) },
-    each-map (Placed (size row)) (grouped row) (groups row) (group-placed (groups row) (order-groups row ok)),
+    record {
+      enters = omega (arith, ok .sound .enters);
+      onward = omega (arith, ok .sound .enters, ok .sound .leaves, ok .sound .long);
+      leaves =
+          omega (arith, ok .sound .leaves);
+    },
+    each-mapped (Placed (size row)) (grouped row) (groups row) (group-placed (groups row) (order-groups row ok)),
   )
 
   -- flow v comes behind the group g in the order
@@ -61,20 +65,22 @@ module _ (row : Tandem) (ok : Accepted row) where
       record { onward = omega (arith, x .0, q .2); nested = inr (omega (arith, x .1, q .3)) }
 
   -- a group and those that come behind it
-  group-first : (g : Path) (w : ℕ) → on row g w ≡ true → (hs : List Path) → Order row ok hs → ((v : ℕ) → later row hs v ≡ true → Behind g v)
+  group-first : (g : Path) (w : ℕ) → on row g w ≡ true → (hs : List Path) → Order row hs → ((v : ℕ) → later row hs v ≡ true → Behind g v)
       → Each (λ h. After (grouped row g) (grouped row h)) hs
   unfolding Order later
   group-first g w a [] o l = tt
   group-first g w a (h ∷ hs) o l =
       let v = o .0 .0 in
-      let b = o .0 .1 in
-      (group-after g h w v a b (l v (or-left (on row h v) (later row hs v) b)), group-first g w a hs (o .2) (λ f k. l f (or-right (on row h f) (later row hs f) k)))
+      let b = o .0 .1 in (
+        group-after g h w v a b (l v (or-left (on row h v) (later row hs v) b)),
+        group-first g w a hs (o .2) (λ f k. l f (or-right (on row h f) (later row hs f) k)),
+      )
 
-  groups-ordered : (gs : List Path) → Order row ok gs → Ordered (map (grouped row) gs)
+  groups-ordered : (gs : List Path) → Order row gs → Ordered (map (grouped row) gs)
   unfolding Order Behind
   groups-ordered [] o = tt
   groups-ordered (g ∷ gs) o =
-      (each-map (After (grouped row g)) (grouped row) gs (group-first g (o .0 .0) (o .0 .1) gs (o .2) (o .1)), groups-ordered gs (o .2))
+      (each-mapped (After (grouped row g)) (grouped row) gs (group-first g (o .0 .0) (o .0 .1) gs (o .2) (o .1)), groups-ordered gs (o .2))
 
   -- what lies in the row lies inside the watched flow's path
   watched-first : (gs : List Flow) → Each (Placed (size row)) gs → Each (After (flow row 0)) gs

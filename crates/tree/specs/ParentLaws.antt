@@ -9,9 +9,9 @@ use native.Mathlib.Omega.{arith}
 use lib.Dec.{eqb}
 use lib.ListN.{length, getD}
 use borrow.Author.Tests.{eqb-true, eq-eqb}
-use Rattle.curves.specs.SlotsLaws.{le-or-lt}
-use Rattle.row.specs.Sums.{weigh, total}
-use Rattle.row.specs.Tandem.{Tandem, Path, size, flow, crosses, on, watched}
+use Rattle.ground.specs.OrderLaws.{le-or-lt}
+use Rattle.tandem.specs.Sums.{weigh, total}
+use Rattle.tandem.specs.Tandem.{Tandem, Path, size, flow, crosses, on, watched}
 use Rattle.row.specs.Groups.{path, groups}
 use Rattle.row.specs.Accepted.{Accepted}
 use Rattle.tree.specs.Stretch.{Stretch, none, then-server, then-group, span}
@@ -19,10 +19,11 @@ use Rattle.tree.specs.Tree.{tree}
 use Rattle.tree.specs.Fits.{Fits}
 use Rattle.tree.specs.Amounts.{weights}
 use Rattle.tree.specs.Stands.{In, Child, Alone, times, Contains, Parent, Outermost, Pieces}
-use Rattle.row.specs.TestLaws.{or-left, or-right, decide}
-use Rattle.row.specs.SumLaws.{total-at}
-use Rattle.row.specs.TandemLaws.{on-is, is-on, crosses-is, is-crosses}
-use Rattle.tree.specs.NestedLaws.{order-groups, tree-fits}
+use Rattle.tandem.specs.TestLaws.{or-left, or-right, decide}
+use Rattle.tandem.specs.SumLaws.{total-at}
+use Rattle.tandem.specs.TandemLaws.{on-is, is-on, crosses-is, is-crosses}
+use Rattle.row.specs.OrderLaws.{order-groups}
+use Rattle.tree.specs.NestedLaws.{tree-fits}
 use Rattle.tree.specs.StretchLaws.{spans}
 use Rattle.tree.specs.SizeLaws.{weights-some}
 use Rattle.tree.specs.PruneLaws.{found, in-tree, order-at, stands, total-only}
@@ -260,7 +261,8 @@ module _ (row : Tandem) (ok : Accepted row) where
   pub child-parent : (k k′ : ℕ) (h g : Path) (p q : Stretch) → In k h p (tree row) → Child k′ g q p → Parent row h g
   child-parent k k′ h g p q i c = record {
     around = record { first = S .begins; last = omega (arith, S .ends, H .whole) };
-    other = λ e. true≢false (sym (subst (λ (x : Path). on row x (H .manned .0) ≡ true) e (H .manned .1)) ∙ child-fits row (H .flows) (h .first) k′ g q p (H .fits) c .1 (H .manned .0) (H .own (H .manned .0) (H .manned .1)));
+    other = λ e. true≢false (sym (subst (λ (x : Path). on row x (H .manned .0) ≡ true) e (H .manned .1))
+        ∙ child-fits row (H .flows) (h .first) k′ g q p (H .fits) c .1 (H .manned .0) (H .own (H .manned .0) (H .manned .1)));
     smallest = λ f a b around. turn f (around-child row (H .flows) (h .first) k′ g q p (H .fits) c f b (around .first) (around .last));
   }
     where

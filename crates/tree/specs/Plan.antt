@@ -7,8 +7,8 @@ use mathlib.Core.List.{List, [], _∷_}
 use lib.Dec.{ltb, eqb}
 use lib.ListN.{length, getD}
 use Rattle.curves.specs.Curve.{Shape, server, neutral, joined, leastWait, remainder, delay}
-use Rattle.row.specs.declared.Server.{Server}
-use Rattle.row.specs.declared.Flow.{Flow}
+use Rattle.tandem.specs.declared.Server.{Server}
+use Rattle.tandem.specs.declared.Flow.{Flow}
 
 -- a node: the curve of its path, its group's wait, and what the group leaves of the curve
 pub record Node : Type 0 where

@@ -11,12 +11,12 @@ use Rattle.curves.specs.Curve.{Shape, neutral}
 use Rattle.curves.specs.Curve.{server as serverShape}
 use Rattle.curves.specs.JoinLaws.{joined-length}
 use Rattle.curves.specs.RemainderLaws.{remainder-length}
-use Rattle.row.specs.declared.Flow.{Flow}
-use Rattle.row.specs.Tandem.{Tandem, Path, size, server, flow, on, bursts, rates}
+use Rattle.tandem.specs.declared.Flow.{Flow}
+use Rattle.tandem.specs.Tandem.{Tandem, Path, size, server, flow, on, bursts, rates}
 use Rattle.row.specs.Groups.{path, groups, grouped, reads}
 use Rattle.tree.specs.Plan.{Top, alone, over, topOf, pieceOn, along, nodeCurve, nodeOf, headOf, tailOf, plan}
 use Rattle.tree.specs.Stretch.{Stretch, none, then-server, then-group, span, groupWait, afterGroup, curve}
-use Rattle.tree.specs.Tree.{Piece, single, whole, pick, oneMore, walk, inside, top, tree}
+use Rattle.tree.specs.Tree.{Piece, single, whole, pick, oneMore, stretchFrom, inside, top, tree}
 use Rattle.tree.specs.Bound.{bound, waits, extraOf, answerAt}
 use Rattle.tree.specs.Planned.{waitsOf, answerOf, nodesOf, treeNodes}
 
@@ -42,15 +42,15 @@ module _ (row : Tandem) (extra : ℕ → ℕ) where
   shown (whole k g q) = over (afterGroup row g (curve row extra q) (extra k)) (g .last)
 
   along-same : (n : ℕ) (t : ℕ → Piece) (s : ℕ → Top) → ((j : ℕ) → s j ≡ shown (t j)) → (p : Stretch) (j e : ℕ)
-      → along (row .servers) s n (curve row extra p) j e ≡ curve row extra (walk n t p j e)
-  unfolding walk along shown curve
+      → along (row .servers) s n (curve row extra p) j e ≡ curve row extra (stretchFrom n t p j e)
+  unfolding stretchFrom along shown curve
   along-same zero t s h p j e = refl
   along-same (suc n) t s h p j e = rw (h j) (step (ltb e j) (t j) (along-same n t s h))
     where
       step : (b : Bool) (x : Piece)
-          → ((p : Stretch) (j e : ℕ) → along (row .servers) s n (curve row extra p) j e ≡ curve row extra (walk n t p j e))
+          → ((p : Stretch) (j e : ℕ) → along (row .servers) s n (curve row extra p) j e ≡ curve row extra (stretchFrom n t p j e))
           → pieceOn (row .servers) b (shown x) (curve row extra p) j (λ c′ j′. along (row .servers) s n c′ j′ e)
-          ≡ curve row extra (oneMore b x p j (λ p′ j′. walk n t p′ j′ e))
+          ≡ curve row extra (oneMore b x p j (λ p′ j′. stretchFrom n t p′ j′ e))
       step true x r = refl
       step false single r = r (then-server p j) (suc j) e
       step false (whole k g q) r = r (then-group p k g q) (suc (g .last)) e
@@ -73,7 +73,8 @@ module _ (row : Tandem) (extra : ℕ → ℕ) where
   node-curve-same : (f : Flow) (gs : List Path) (k : ℕ)
       → nodeCurve (row .servers) f (map (grouped row) gs) (nodesOf row extra k gs) ≡ curve row extra (inside row (top row k gs) (path (f .first) (f .last)))
   unfolding nodeCurve curve
-  node-curve-same f gs k = along-same (size row) (top row k gs) (topOf (map (grouped row) gs) (nodesOf row extra k gs)) (top-same gs k) none (f .first) (f .last)
+  node-curve-same f gs k = along-same (size row) (top row k gs) (topOf (map (grouped row) gs) (nodesOf row extra k gs)) (top-same gs k) none
+      (f .first) (f .last)
 
   -- the nodes that the program works out of groups are the tree's
   plan-same : (gs : List Path) (k : ℕ) (es : List ℕ) → Extras extra k es → plan (row .servers) (map (grouped row) gs) es ≡ nodesOf row extra k gs

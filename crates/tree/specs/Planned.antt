@@ -4,9 +4,9 @@ use Prim.Native.Nat.{ℕ, suc}
 use mathlib.Core.List.{List, [], _∷_, map}
 use lib.ListN.{getD}
 use Rattle.curves.specs.Curve.{delay}
-use Rattle.row.specs.declared.Server.{Server}
-use Rattle.row.specs.declared.Flow.{Flow}
-use Rattle.row.specs.Tandem.{Tandem, Path, flow}
+use Rattle.tandem.specs.declared.Server.{Server}
+use Rattle.tandem.specs.declared.Flow.{Flow}
+use Rattle.tandem.specs.Tandem.{Tandem, Path, flow}
 use Rattle.row.specs.Groups.{groups, grouped}
 use Rattle.tree.specs.Plan.{Node, nodeOf, plan}
 use Rattle.tree.specs.Grid.{Answer}

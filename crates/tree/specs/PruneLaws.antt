@@ -12,24 +12,26 @@ use lib.Dec.{ltb, eqb}
 use lib.ListN.{length, getD, drop}
 use borrow.Author.Tests.{eqb-true, eq-eqb, ne-eqb}
 use Rattle.curves.specs.Curve.{Shape, joined, remainder, delay}
-use Rattle.curves.specs.SlotsLaws.{le-or-lt}
+use Rattle.ground.specs.OrderLaws.{le-or-lt}
 use Rattle.curves.specs.CurveLaws.{wait-after-offset}
 use Rattle.curves.specs.DelayLaws.{delay-after-offset}
-use Rattle.row.specs.declared.Server.{Server}
-use Rattle.row.specs.Sums.{weigh, total}
-use Rattle.row.specs.Tandem.{Tandem, Path, size, server, flow, crosses, on, watched, bursts}
+use Rattle.tandem.specs.declared.Server.{Server}
+use Rattle.tandem.specs.Sums.{weigh, total}
+use Rattle.tandem.specs.Tandem.{Tandem, Path, size, server, flow, crosses, on, watched, bursts}
 use Rattle.row.specs.Groups.{path, groups}
 use Rattle.row.specs.Accepted.{Accepted}
 use Rattle.tree.specs.Stretch.{Stretch, none, then-server, then-group, span, groupWait, afterGroup, curve}
-use Rattle.tree.specs.Tree.{Piece, single, whole, pick, oneMore, walk, inside, top, tree}
+use Rattle.tree.specs.Tree.{Piece, single, whole, pick, oneMore, stretchFrom, inside, top, tree}
 use Rattle.tree.specs.Bound.{bound, waits, extraOf, answerAt}
 use Rattle.tree.specs.Fits.{Fits}
 use Rattle.tree.specs.Amounts.{latencies, extras, sumOf}
 use Rattle.tree.specs.Stands.{In, numbered}
-use Rattle.row.specs.TestLaws.{or-left, or-right, decide, not-passed}
-use Rattle.row.specs.SumLaws.{total-mono, total-add, total-same, total-zero, total-front}
-use Rattle.row.specs.TandemLaws.{on-is, is-crosses}
-use Rattle.tree.specs.NestedLaws.{Order, later, order-groups, tree-fits}
+use Rattle.tandem.specs.TestLaws.{or-left, or-right, decide, not-passed}
+use Rattle.tandem.specs.SumLaws.{total-mono, total-add, total-same, total-zero, total-front}
+use Rattle.tandem.specs.TandemLaws.{on-is, is-crosses}
+use Rattle.row.specs.Order.{later, Order}
+use Rattle.row.specs.OrderLaws.{order-groups}
+use Rattle.tree.specs.NestedLaws.{tree-fits}
 use Rattle.tree.specs.StretchLaws.{offset-ge}
 
 -- a flow that crosses a server of a stretch and not the whole of it is in a group that stands there
@@ -39,7 +41,8 @@ unfolding Fits span In
 found row P i none h f m l c e = absurd (omega arith)
 found row P i (then-server p j) h f m l c e = go (le-or-lt (span p) m) (found row P i p (h .0) f m)
   where
-    go : (span p ≤ m) ⊎ (m < span p) → (m < span p → crosses row f (i + m) ≡ true → P f ≡ false → (k : ℕ) × (g : Path) × (q : Stretch) × (on row g f ≡ true) × In k g q p)
+    go : (span p ≤ m) ⊎ (m < span p)
+        → (m < span p → crosses row f (i + m) ≡ true → P f ≡ false → (k : ℕ) × (g : Path) × (q : Stretch) × (on row g f ≡ true) × In k g q p)
         → (k : ℕ) × (g : Path) × (q : Stretch) × (on row g f ≡ true) × In k g q p
     go (inr x) r = r x c e
     go (inl x) r = let d : i + m ≡ j = omega (arith, h .1) in absurd (true≢false (sym (rw d at c) ∙ h .3 f ∙ e))
@@ -48,7 +51,8 @@ found row P i (then-group p k′ g′ q′) h f m l c e =
   where
     go : (span p ≤ m) ⊎ (m < span p) → (on row g′ f ≡ true) ⊎ (on row g′ f ≡ false)
         → (m < span p → crosses row f (i + m) ≡ true → P f ≡ false → (k : ℕ) × (g : Path) × (q : Stretch) × (on row g f ≡ true) × In k g q p)
-        → (m - span p < span q′ → crosses row f (i + span p + (m - span p)) ≡ true → (P f || on row g′ f) ≡ false → (k : ℕ) × (g : Path) × (q : Stretch) × (on row g f ≡ true) × In k g q q′)
+        → (m - span p < span q′ → crosses row f (i + span p + (m - span p)) ≡ true → (P f || on row g′ f) ≡ false
+        → (k : ℕ) × (g : Path) × (q : Stretch) × (on row g f ≡ true) × In k g q q′)
         → (k : ℕ) × (g : Path) × (q : Stretch) × (on row g f ≡ true) × In k g q (then-group p k′ g′ q′)
     go (inr x) o r s = let y = r x c e in (y .0, y .1, y .2, y .3, inl (inl (y .4)))
     go (inl x) (inl o) r s = (k′, g′, q′, o, inr (refl, refl, refl))
@@ -96,7 +100,8 @@ numbered-le n extra none = omega (arith, total-zero n (λ k. 0) (λ k l. refl))
 numbered-le n extra (then-server p j) = numbered-le n extra p
 numbered-le n extra (then-group p k′ g q) =
     let m = total-mono n (λ k. weigh ((numbered p k || numbered q k) || eqb k′ k) (extra k))
-    (λ k. weigh (numbered p k) (extra k) + weigh (numbered q k) (extra k) + weigh (eqb k′ k) (extra k)) (λ k l. each (numbered p k) (numbered q k) (eqb k′ k) (extra k)) in
+    (λ k. weigh (numbered p k) (extra k) + weigh (numbered q k) (extra k) + weigh (eqb k′ k) (extra k))
+    (λ k l. each (numbered p k) (numbered q k) (eqb k′ k) (extra k)) in
     omega (
       arith,
       m,
@@ -161,16 +166,16 @@ module _ (row : Tandem) (extra : ℕ → ℕ) where
       step x = omega (arith, x, wait-past-offset row g′ (curve row extra q′) (extra k′))
   in-wait k g q (then-group p k′ g′ q′) (inr h) = rw (h .0, h .1, h .2) (omega arith)
 
-  -- what holds of each piece holds of each group in a walk
+  -- what holds of each piece holds of each group of a stretch
   abbrev AllIn : (ℕ → Path → Stretch → Type 0) → Stretch → Type 0
   AllIn K p = (k : ℕ) (g : Path) (q : Stretch) → In k g q p → K k g q
 
-  walk-all : (K : ℕ → Path → Stretch → Type 0) (n : ℕ) (t : ℕ → Piece)
+  stretch-all : (K : ℕ → Path → Stretch → Type 0) (n : ℕ) (t : ℕ → Piece)
       → ((j k : ℕ) (g : Path) (q : Stretch) → t j ≡ whole k g q → K k g q × AllIn K q)
-      → (p : Stretch) (j e : ℕ) → AllIn K p → AllIn K (walk n t p j e)
-  unfolding walk In
-  walk-all K zero t h p j e a = a
-  walk-all K (suc n) t h p j e a = step (ltb e j) (t j) refl (walk-all K n t h)
+      → (p : Stretch) (j e : ℕ) → AllIn K p → AllIn K (stretchFrom n t p j e)
+  unfolding stretchFrom In
+  stretch-all K zero t h p j e a = a
+  stretch-all K (suc n) t h p j e a = step (ltb e j) (t j) refl (stretch-all K n t h)
     where
       more : (k : ℕ) (g : Path) (q : Stretch) → K k g q × AllIn K q → AllIn K (then-group p k g q)
       more k g q x k′ g′ q′ i = go i
@@ -180,7 +185,8 @@ module _ (row : Tandem) (extra : ℕ → ℕ) where
           go (inl (inr y)) = x .1 k′ g′ q′ y
           go (inr y) = rw (y .0, y .1, y .2) (x .0)
 
-      step : (b : Bool) (x : Piece) → t j ≡ x → ((p : Stretch) (j e : ℕ) → AllIn K p → AllIn K (walk n t p j e)) → AllIn K (oneMore b x p j (λ p′ j′. walk n t p′ j′ e))
+      step : (b : Bool) (x : Piece) → t j ≡ x → ((p : Stretch) (j e : ℕ) → AllIn K p → AllIn K (stretchFrom n t p j e))
+          → AllIn K (oneMore b x p j (λ p′ j′. stretchFrom n t p′ j′ e))
       step true x y r = a
       step false single y r = r (then-server p j) (suc j) e a
       step false (whole k g q) y r = r (then-group p k g q) (suc (g .last)) e (more k g q (h j k g q y))
@@ -211,7 +217,7 @@ module _ (row : Tandem) (extra : ℕ → ℕ) where
       step true e r = go (cc) (cc) (cc)
         where
           within : AllIn (Known (suc k) gs) w
-          within = walk-all (Known (suc k) gs) (size row) (top row (suc k) gs) r none (g₀ .first) (g₀ .last) (λ a b c i. absurd i)
+          within = stretch-all (Known (suc k) gs) (size row) (top row (suc k) gs) r none (g₀ .first) (g₀ .last) (λ a b c i. absurd i)
 
           go : k ≡ k′ → g₀ ≡ g → w ≡ q → Known k (g₀ ∷ gs) k′ g q × AllIn (Known k (g₀ ∷ gs)) q
           go x y z = (
@@ -221,7 +227,8 @@ module _ (row : Tandem) (extra : ℕ → ℕ) where
 
   tree-all : AllIn (Known 0 (groups row)) (tree row)
   unfolding tree In
-  tree-all = walk-all (Known 0 (groups row)) (size row) (top row 0 (groups row)) (top-all (groups row) 0) none (flow row 0 .first) (flow row 0 .last) (λ a b c i. absurd i)
+  tree-all = stretch-all (Known 0 (groups row)) (size row) (top row 0 (groups row)) (top-all (groups row) 0) none (flow row 0 .first) (flow row 0 .last)
+      (λ a b c i. absurd i)
 
 -- what stands in the tree is a group of the row, under its number, and its stretch is made of the groups behind it
 pub in-tree : (row : Tandem) (k : ℕ) (g : Path) (q : Stretch) → In k g q (tree row)
@@ -241,14 +248,14 @@ module _ (row : Tandem) (ok : Accepted row) where
   later-at (g ∷ gs) zero f h e = or-left (on row g f) (later row gs f) e
   later-at (g ∷ gs) (suc m) f h e = or-right (on row g f) (later row gs f) (later-at gs m f (omega arith) e)
 
-  pub order-at : (gs : List Path) → Order row ok gs → (m : ℕ) → m < length gs
+  pub order-at : (gs : List Path) → Order row gs → (m : ℕ) → m < length gs
       → (w : ℕ) × (on row (getD gs m (path 0 0)) w ≡ true) × (getD gs m (path 0 0) .first ≤ getD gs m (path 0 0) .last)
   unfolding Order
   order-at [] o m h = absurd (omega arith)
   order-at (g ∷ gs) o zero h = o .0
   order-at (g ∷ gs) o (suc m) h = order-at gs (o .2) m (omega arith)
 
-  never-again : (g : Path) (gs : List Path) → Order row ok (g ∷ gs) → (m : ℕ) → m < length gs → g ≡ getD gs m (path 0 0) → ⊥
+  never-again : (g : Path) (gs : List Path) → Order row (g ∷ gs) → (m : ℕ) → m < length gs → g ≡ getD gs m (path 0 0) → ⊥
   unfolding Order
   never-again g gs o m h e =
       let w = o .0 .0 in
@@ -261,7 +268,7 @@ module _ (row : Tandem) (ok : Accepted row) where
       go x (inr y) = omega (arith, x .3, y .1)
 
   -- no path stands twice among the groups
-  pub same-index : (gs : List Path) → Order row ok gs → (a b : ℕ) → a < length gs → b < length gs → getD gs a (path 0 0) ≡ getD gs b (path 0 0) → a ≡ b
+  pub same-index : (gs : List Path) → Order row gs → (a b : ℕ) → a < length gs → b < length gs → getD gs a (path 0 0) ≡ getD gs b (path 0 0) → a ≡ b
   unfolding Order
   same-index [] o a b h k e = absurd (omega arith)
   same-index (g ∷ gs) o zero zero h k e = refl
@@ -325,7 +332,8 @@ module _ (row : Tandem) (ok : Accepted row) where
   extras-all : (extra : ℕ → ℕ) → total (length (groups row)) extra ≤ extras extra (tree row)
   extras-all extra =
       let n = length (groups row) in
-      let e = total-same n extra (λ k. weigh (numbered (tree row) k) (extra k)) (λ k l. let s = stands extra k l in rw (in-numbered k (s .0) (s .1) (tree row) (s .2))) in
+      let e = total-same n extra (λ k. weigh (numbered (tree row) k) (extra k))
+      (λ k l. let s = stands extra k l in rw (in-numbered k (s .0) (s .1) (tree row) (s .2))) in
       omega (arith, e, numbered-le n extra (tree row))
 
   latencies-all : latencies row (tree row) ≡ sumOf (latenciesOf (row .servers))

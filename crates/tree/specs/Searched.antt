@@ -4,12 +4,8 @@ use Prim.Native.Nat.{ℕ, _≤_, _<_}
 use mathlib.Core.Path.{_≡_}
 use mathlib.Core.List.{List, [], _∷_, _++_}
 use lib.ListN.{length, getD}
+use Rattle.ground.specs.Each.{Each}
 use Rattle.tree.specs.Grid.{Answer}
-
--- P of each entry of a list
-abbrev pub Each : {A : Type 0} → (A → Type 0) → List A → Type 0
-Each P [] = Unit {0}
-Each P (x ∷ l) = P x × Each P l
 
 -- best is what stands at the first of the points with the least delay: every earlier point has a greater delay, no later one a smaller
 pub record First (at : List ℕ → Answer) (points : List (List ℕ)) (best : Answer) : Type 0 where

@@ -15,11 +15,12 @@ use Rattle.curves.specs.Curve.{leastWait, delay, All, Rates}
 use Rattle.curves.specs.Held.{Live}
 use Rattle.curves.specs.StageLaws.{all-both, rates-weaken}
 use Rattle.curves.specs.RemainderLaws.{remainder-offset, remainder-length}
-use Rattle.row.specs.declared.Flow.{Flow}
-use Rattle.row.specs.Sums.{weigh, total}
-use Rattle.row.specs.Tandem.{Tandem, Path, size, flow, crosses, on, watched, bursts, rates}
+use Rattle.tandem.specs.declared.Flow.{Flow}
+use Rattle.tandem.specs.Sums.{weigh, total}
+use Rattle.tandem.specs.Tandem.{Tandem, Path, size, flow, crosses, on, watched, bursts, rates}
 use Rattle.row.specs.Groups.{groups, grouped, reads}
-use Rattle.row.specs.Accepted.{Accepted, Limits}
+use Rattle.tandem.specs.Sound.{Limits}
+use Rattle.row.specs.Accepted.{Accepted}
 use Rattle.tree.specs.Plan.{nodeOf, plan}
 use Rattle.tree.specs.Stretch.{Stretch, none, then-server, then-group, span, curve}
 use Rattle.tree.specs.Tree.{inside, top, tree}
@@ -28,11 +29,13 @@ use Rattle.tree.specs.Planned.{nodesOf, treeNodes}
 use Rattle.tree.specs.Fits.{Fits}
 use Rattle.tree.specs.Amounts.{weights, count}
 use Rattle.tree.specs.Fine.{Fine, AllFine}
-use Rattle.row.specs.TestLaws.{or-cases, both-true, not-passed}
-use Rattle.row.specs.SumLaws.{total-at, total-or, total-subset}
-use Rattle.row.specs.TandemLaws.{on-is, is-crosses}
+use Rattle.tandem.specs.TestLaws.{or-cases, both-true, not-passed}
+use Rattle.tandem.specs.SumLaws.{total-at, total-or, total-subset}
+use Rattle.tandem.specs.TandemLaws.{on-is, is-crosses}
 use Rattle.tree.specs.PlanLaws.{plan-is-tree, stage-count}
-use Rattle.tree.specs.NestedLaws.{Order, Outer, outside, order-groups, outer-all, outer-tail, tree-fits, node-fits, own-outside}
+use Rattle.row.specs.Order.{Order}
+use Rattle.row.specs.OrderLaws.{order-groups}
+use Rattle.tree.specs.NestedLaws.{Outer, outside, outer-all, outer-tail, tree-fits, node-fits, own-outside}
 use Rattle.tree.specs.StretchLaws.{curve-rates, wait-most, delay-most, offset-le, latencies-le, extras-le, Small, stages-small}
 
 -- each flow is counted once: the groups of a stretch are made of flows that begin in it and do not cross the whole of it
@@ -101,7 +104,8 @@ module _ (row : Tandem) where
       second : (f : ℕ) → (A f || on row g f) ≡ true → C f ≡ false
       second f e = not-passed (C f) (λ k. go (in-is (λ f. P f || on row g f) (i + span p) (span q) f k) (or-cases (A f) (on row g f) e))
         where
-          go : (i + span p ≤ flow row f .first) × (flow row f .first < i + span p + span q) × ((P f || on row g f) ≡ false) → (A f ≡ true) ⊎ (on row g f ≡ true) → ⊥
+          go : (i + span p ≤ flow row f .first) × (flow row f .first < i + span p + span q) × ((P f || on row g f) ≡ false)
+              → (A f ≡ true) ⊎ (on row g f ≡ true) → ⊥
           go x (inl a) = omega (arith, x .0, in-is P i (span p) f a .1)
           go x (inr a) = true≢false (sym a ∙ not-or (P f) (on row g f) (x .2) .1)
 
@@ -114,7 +118,8 @@ module _ (row : Tandem) where
 
           go : ((A f || on row g f) ≡ true) ⊎ (C f ≡ true) → D f ≡ true
           go (inl a) = go₂ (or-cases (A f) (on row g f) a)
-          go (inr a) = let x = in-is (λ f. P f || on row g f) (i + span p) (span q) f a in is-in P i (span p + span q) f (omega (arith, x .0)) (omega (arith, x .1)) (not-or (P f) (on row g f) (x .2) .0)
+          go (inr a) = let x = in-is (λ f. P f || on row g f) (i + span p) (span q) f a in is-in P i (span p + span q) f (omega (arith, x .0))
+              (omega (arith, x .1)) (not-or (P f) (on row g f) (x .2) .0)
 
   -- a watched flow besides: all weights together
   pub weights-all : (w : ℕ → ℕ) (p : Stretch) → 0 < length (row .flows) → Fits row watched 1 p → weights row w p + w 0 ≤ total (length (row .flows)) w
@@ -186,7 +191,8 @@ module _ (row : Tandem) (ok : Accepted row) (limits : Limits row) where
   watched-rate : flow row 0 .rate ≤ rates row watched
   unfolding rates watched
   watched-rate =
-      let k : weigh (eqb 0 0) (flow row 0 .rate) ≤ rates row watched = total-at (length (row .flows)) 0 (λ f. weigh (eqb 0 f) (flow row f .rate)) (ok .sound .some) in
+      let k : weigh (eqb 0 0) (flow row 0 .rate) ≤ rates row watched =
+      total-at (length (row .flows)) 0 (λ f. weigh (eqb 0 f) (flow row f .rate)) (ok .sound .some) in
       k
 
   watched-rate-small : flow row 0 .rate ≤ 1000000
@@ -256,7 +262,8 @@ module _ (row : Tandem) (ok : Accepted row) (limits : Limits row) where
           some = omega arith;
           few = omega (arith, limits .few-servers);
           near = omega arith;
-          live = stages-live (c .offset) (c .stages) (omega arith) (stages-small row extra 1000000 (limits .small-rates) p) (rates-weaken 1 (rates row P) (c .stages) (omega arith) r);
+          live = stages-live (c .offset) (c .stages) (omega arith) (stages-small row extra 1000000 (limits .small-rates) p)
+              (rates-weaken 1 (rates row P) (c .stages) (omega arith) r);
           room = rates-weaken (g .rate) (rates row P) (c .stages) room r;
           moves = moves;
           light = omega arith;
@@ -266,7 +273,7 @@ module _ (row : Tandem) (ok : Accepted row) (limits : Limits row) where
           left-near = omega arith;
         }
 
-    group-fine : (g : Path) (gs : List Path) (k : ℕ) → Order row ok (g ∷ gs) → Outer row ok (g ∷ gs)
+    group-fine : (g : Path) (gs : List Path) (k : ℕ) → Order row (g ∷ gs) → Outer row ok (g ∷ gs)
         → Fine (nodeOf (curve row extra (inside row (top row (suc k) gs) g)) (grouped row g) (extra k)) (grouped row g)
     unfolding Order grouped rates
     group-fine g gs k order outer =
@@ -274,7 +281,8 @@ module _ (row : Tandem) (ok : Accepted row) (limits : Limits row) where
         let o = on-is row g w (order .0 .1) in
         let v = ok .sound .paths w (o .1) in
         let fit = node-fits row ok g gs order outer (suc k) in
-        let one : weigh (on row g w) (flow row w .rate) ≤ rates row (on row g) = total-at (length (row .flows)) w (λ f. weigh (on row g f) (flow row f .rate)) (o .1) in
+        let one : weigh (on row g w) (flow row w .rate) ≤ rates row (on row g) =
+        total-at (length (row .flows)) w (λ f. weigh (on row g f) (flow row f .rate)) (o .1) in
         let moves = ok .sound .moves w (o .1) in
         node-fine (outside row gs (g .first)) (g .first) (inside row (top row (suc k) gs) g) (grouped row g) (extra k)
         (omega (arith, o .2, v .0)) (omega (arith, fit .1, order .0 .2)) (omega (arith, fit .1, order .0 .2, o .2, o .3, v .0, v .1)) (fit .0)
@@ -282,10 +290,10 @@ module _ (row : Tandem) (ok : Accepted row) (limits : Limits row) where
         (omega (arith, rw (order .0 .1) at one, moves)) (bursts-small (on row g))
         (rates-small (on row g) (g .first) (omega (arith, o .2, v .0)) (omega (arith, order .0 .2, o .3, v .1)) (crossing order)) (low k)
       where
-        crossing : Order row ok (g ∷ gs) → (f : ℕ) → on row g f ≡ true → crosses row f (g .first) ≡ true
+        crossing : Order row (g ∷ gs) → (f : ℕ) → on row g f ≡ true → crosses row f (g .first) ≡ true
         crossing order f e = let o = on-is row g f e in is-crosses row f (g .first) (o .1) (omega (arith, o .2)) (omega (arith, o .3, order .0 .2))
 
-    nodes-fine : (gs : List Path) (k : ℕ) → Order row ok gs → Outer row ok gs → AllFine (nodesOf row extra k gs) (map (grouped row) gs)
+    nodes-fine : (gs : List Path) (k : ℕ) → Order row gs → Outer row ok gs → AllFine (nodesOf row extra k gs) (map (grouped row) gs)
     unfolding nodesOf Order
     nodes-fine [] k order outer = tt
     nodes-fine (g ∷ gs) k order outer = (group-fine g gs k order outer, nodes-fine gs (suc k) (order .2) (outer-tail row ok g gs order outer))

@@ -3,9 +3,9 @@
 use Prim.Native.Nat.{ℕ, _-_, _^_, _≤_}
 use mathlib.Core.List.{List, _∷_}
 use Rattle.curves.specs.Curve.{Shape, All}
-use Rattle.row.specs.Tandem.{Tandem}
+use Rattle.tandem.specs.Tandem.{Tandem}
 use Rattle.row.specs.Groups.{reads}
-use Rattle.tree.specs.Searched.{Each}
+use Rattle.ground.specs.Each.{Each}
 use Rattle.tree.specs.Plan.{Node, plan}
 use Rattle.tree.specs.Bound.{answerAt}
 

@@ -6,8 +6,8 @@ use mathlib.Core.Bool.{Bool, true, false, _||_}
 use mathlib.Core.Logic.{_⊎_}
 use lib.Dec.{eqb}
 use lib.ListN.{length}
-use Rattle.row.specs.Sums.{weigh}
-use Rattle.row.specs.Tandem.{Tandem, Path, size, flow, on}
+use Rattle.tandem.specs.Sums.{weigh}
+use Rattle.tandem.specs.Tandem.{Tandem, Path, size, flow, on}
 use Rattle.row.specs.Groups.{path}
 use Rattle.tree.specs.Stretch.{Stretch, none, then-server, then-group, span}
 

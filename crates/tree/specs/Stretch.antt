@@ -4,7 +4,7 @@
 use Prim.Native.Nat.{ℕ, suc, _+_}
 use Rattle.curves.specs.Curve.{Shape, neutral, joined, leastWait, remainder}
 use Rattle.curves.specs.Curve.{server as serverShape}
-use Rattle.row.specs.Tandem.{Tandem, Path, server, on, bursts, rates}
+use Rattle.tandem.specs.Tandem.{Tandem, Path, server, on, bursts, rates}
 
 -- nothing; a stretch and then server j; a stretch and then group k with its path, which is a stretch of its own
 pub data Stretch : Type 0 where

@@ -1,29 +1,26 @@
 -- Laws of stretches that fit a row: which flows cross them, the room that their stages have, and their offsets and bursts.
 -- Assumes nothing.
-use mathlib.Core.Path.{_≡_, sym, _∙_}
-use mathlib.Core.Bool.{Bool, true, false, _||_}
+use mathlib.Core.Path.{_≡_, _∙_}
+use mathlib.Core.Bool.{Bool, true, _||_}
 use mathlib.Core.Logic.{_⊎_, inl, inr}
-use mathlib.Core.List.{List, [], _∷_, _++_, append-assoc, append-nil}
+use mathlib.Core.List.{List, [], _∷_}
 use Prim.Native.Nat.{ℕ, zero, suc, _+_, _*_, _-_, _≤_, _<_}
 use native.Mathlib.Omega.{arith}
 use native.Mathlib.Nat.{mul-le-mul-left, mul-le-mul-right, div-lt-iff-lt-mul, div-zero}
-use lib.Dec.{ltb}
 use lib.ListN.{length}
 use Rattle.curves.specs.declared.Stage.{Stage}
 use Rattle.curves.specs.Curve.{Shape, neutral, joined, ceil, greatest, catchUp, leastWait, lateness, delay, after, remainder, All, Rates}
 use Rattle.curves.specs.Curve.{server as serverShape}
-use Rattle.curves.specs.SlotsLaws.{le-or-lt}
+use Rattle.ground.specs.OrderLaws.{le-or-lt}
 use Rattle.curves.specs.StageLaws.{all-weaken, all-append, rates-weaken}
 use Rattle.curves.specs.JoinLaws.{joined-rates}
 use Rattle.curves.specs.RemainderLaws.{remainder-all, remainder-rates}
-use Rattle.row.specs.declared.Server.{Server}
-use Rattle.row.specs.Tandem.{Tandem, size, server, flow, crosses, on, bursts, rates}
-use Rattle.tree.specs.Plan.{Top, alone, over, serverCurve, pieceOn, along}
+use Rattle.tandem.specs.Tandem.{Tandem, size, server, flow, crosses, on, bursts, rates}
 use Rattle.tree.specs.Stretch.{Stretch, none, then-server, then-group, span, groupWait, afterGroup, curve}
 use Rattle.tree.specs.Fits.{Fits}
 use Rattle.tree.specs.Amounts.{latencies, weights, extras, count}
-use Rattle.row.specs.TestLaws.{or-left}
-use Rattle.row.specs.SumLaws.{total-or, total-subset}
+use Rattle.tandem.specs.TestLaws.{or-left}
+use Rattle.tandem.specs.SumLaws.{total-or, total-subset}
 
 -- which flows cross
 
@@ -63,7 +60,8 @@ module _ (row : Tandem) (extra : ℕ → ℕ) (room : (j : ℕ) → 0 < j → j 
   curve-rates P i (then-server p j) hi h =
       let k = room j (omega (arith, h .1)) (h .2) in
       let m = total-subset (length (row .flows)) P (λ f. crosses row f j) (λ f. flow row f .rate) (λ f x. h .3 f ∙ x) in
-      joined-rates (rates row P) (curve row extra p) (serverShape (server row j .rate) (server row j .latency)) (curve-rates P i p hi (h .0)) (omega (arith, k, m), tt)
+      joined-rates (rates row P) (curve row extra p) (serverShape (server row j .rate) (server row j .latency)) (curve-rates P i p hi (h .0))
+      (omega (arith, k, m), tt)
   curve-rates P i (then-group p k g q) hi h =
       joined-rates (rates row P) (curve row extra p) (afterGroup row g (curve row extra q) (extra k)) (curve-rates P i p hi (h .0))
       (remainder-rates (rates row P) (curve row extra q) (bursts row (on row g)) (rates row (on row g)) (groupWait row g (curve row extra q) (extra k))
@@ -159,27 +157,3 @@ stages-small row extra M h (then-group p k g q) =
     (small-mono M (d .offset + (θ - d .offset)) (c .offset + θ) (r .stages) (omega arith)
     (remainder-all (Small M (d .offset)) (Small M (d .offset + (θ - d .offset))) d (bursts row (on row g)) (rates row (on row g)) θ
     (small-after M (d .offset) (θ - d .offset) (bursts row (on row g)) (rates row (on row g))) (stages-small row extra M h q)))
-
--- a curve that is still being joined is the front of the whole
-
-pub record Front (c d : Shape) : Type 0 where
-  pub near : c .offset ≤ d .offset
-  pub rest : List Stage
-  pub whole : c .stages ++ rest ≡ d .stages
-
-pub along-grows : (ss : List Server) (t : ℕ → Top) (n : ℕ) (c : Shape) (j e : ℕ) → Front c (along ss t n c j e)
-unfolding along joined
-along-grows ss t zero c j e = record { near = omega arith; rest = []; whole = append-nil (c .stages) }
-along-grows ss t (suc n) c j e = go (ltb e j) (t j) (along-grows ss t n)
-  where
-    more : (a d : Shape) → Front (joined c a) d → Front c d
-    more a d h = record {
-      near = omega (arith, h .near);
-      rest = a .stages ++ h .rest;
-      whole = sym (append-assoc (c .stages) (a .stages) (h .rest)) ∙ h .whole;
-    }
-
-    go : (b : Bool) (x : Top) → ((c : Shape) (j e : ℕ) → Front c (along ss t n c j e)) → Front c (pieceOn ss b x c j (λ c′ j′. along ss t n c′ j′ e))
-    go true x r = record { near = omega arith; rest = []; whole = append-nil (c .stages) }
-    go false alone r = more (serverCurve ss j) (along ss t n (joined c (serverCurve ss j)) (suc j) e) (r (joined c (serverCurve ss j)) (suc j) e)
-    go false (over d l) r = more d (along ss t n (joined c d) (suc l) e) (r (joined c d) (suc l) e)

@@ -8,7 +8,7 @@ use Prim.Native.Nat.{ℕ, zero, suc}
 use mathlib.Core.Bool.{Bool, true, false}
 use mathlib.Core.List.{List, [], _∷_}
 use lib.Dec.{ltb, eqb}
-use Rattle.row.specs.Tandem.{Tandem, Path, size, flow}
+use Rattle.tandem.specs.Tandem.{Tandem, Path, size, flow}
 use Rattle.row.specs.Groups.{path, groups}
 use Rattle.tree.specs.Stretch.{Stretch, none, then-server, then-group}
 
@@ -28,13 +28,13 @@ oneMore false single p j next = next (then-server p j) (suc j)
 oneMore false (whole k g q) p j next = next (then-group p k g q) (suc (g .last))
 
 -- from server j to server e, piece by piece, behind p; n bounds the pieces
-unfoldable pub walk : ℕ → (ℕ → Piece) → Stretch → ℕ → ℕ → Stretch
-walk zero t p j e = p
-walk (suc n) t p j e = oneMore (ltb e j) (t j) p j (λ p′ j′. walk n t p′ j′ e)
+unfoldable pub stretchFrom : ℕ → (ℕ → Piece) → Stretch → ℕ → ℕ → Stretch
+stretchFrom zero t p j e = p
+stretchFrom (suc n) t p j e = oneMore (ltb e j) (t j) p j (λ p′ j′. stretchFrom n t p′ j′ e)
 
 -- the stretch of a path, where t says what begins at each server
 abbrev pub inside : Tandem → (ℕ → Piece) → Path → Stretch
-inside row t g = walk (size row) t none (g .first) (g .last)
+inside row t g = stretchFrom (size row) t none (g .first) (g .last)
 
 -- of the groups gs, numbered from k on, the first that begins at server j; inside it stand those behind it
 unfoldable pub top : Tandem → ℕ → List Path → ℕ → Piece

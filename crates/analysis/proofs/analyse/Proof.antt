@@ -5,14 +5,14 @@ use mathlib.Core.Path.{_≡_, refl, sym, _∙_}
 use native.Mathlib.Omega.{arith}
 use lib.Seq.{length-take-le}
 use Rattle.analysis.specs.Held.{analysedOf}
-use Rattle.analysis.proofs.Judging.{Numbers, numbers-read, refused-read}
+use Rattle.sheet.specs.RoomLaws.{Numbers, numbers-read, refused-read}
 use borrow.Author.Needs.{needs}
 use Rattle.analysis.proofs.analyse.Statement.{statement}
 use Rattle.analysis.proofs.analyse.Tie as tie
 
 -- the numbers that were read
-read : (c : tie.After-n) → Numbers (c .before .before .before .before .before .before .args .bytes .now) _ (c .before .before .before .read-sheet .last .1 .0) (c .before .before .before .read-sheet .result) refl (c .before .before .before .read-sheet .ensures .0) (c .before .before .before .read-sheet .ensures .1) (c .n .given .0 .0)
-read c = numbers-read _ _ _ _ refl (c .before .before .before .read-sheet .ensures .0) (c .before .before .before .read-sheet .ensures .1) _ (c .n .given .1)
+read : (c : tie.After-n) → Numbers (c .before .before .before .before .before .before .args .bytes .now) _ (c .before .before .before .read-sheet .last .1 .0) (c .before .before .before .read-sheet .result) refl (c .before .before .before .read-sheet .ensures .gives) (c .before .before .before .read-sheet .ensures .holds) (c .n .given .0 .0)
+read c = numbers-read _ _ _ _ refl (c .before .before .before .read-sheet .ensures .gives) (c .before .before .before .read-sheet .ensures .holds) _ (c .n .given .1)
 
 slice-aggregate-read-sheet : tie.Need-slice-aggregate-read-sheet
 slice-aggregate-read-sheet c = search needs
@@ -40,11 +40,13 @@ refused-requires c κs = search needs
 
 returns : tie.Need-returns
 unfolding analysedOf
-returns c = c .judge .ensures ∙ rw (read (c .before .before .before) .front, read (c .before .before .before) .are)
+returns c = record { is = c .judge .ensures ∙ rw (read (c .before .before .before) .front, read (c .before .before .before) .are) }
 
 returns-2 : tie.Need-returns-2
 unfolding analysedOf
-returns-2 c = c .refused .ensures ∙ rw (refused-read _ _ _ _ refl (c .before .before .before .before .before .read-sheet .ensures .0) (c .before .before .before .before .before .read-sheet .ensures .1) _ _ (c .before .before .why .given .1))
+returns-2 c =
+    let e = c .before .before .before .before .before .read-sheet .ensures in
+    record { is = c .refused .ensures ∙ rw (refused-read _ _ _ _ refl (e .gives) (e .holds) _ _ (c .before .before .why .given .1)) }
 
 pub analyse-spec : {M : Type 1} → statement M
 analyse-spec =

@@ -13,8 +13,8 @@ row-of-requires c κs = search needs
 enum-told : tie.Need-enum-told
 enum-told c = search needs
 
-listed-requires : tie.Need-listed-requires
-listed-requires c κs = row-searchable _ _ (c .before .before .before .row-of .ensures) (c .before .before .before .before .before .pre) (c .before .enum-told .given .1)
+list-row-requires : tie.Need-list-row-requires
+list-row-requires c κs = row-searchable _ _ (c .before .before .before .row-of .ensures .is) (c .before .before .before .before .before .pre) (c .before .enum-told .given .1)
 
 enum-told-2 : tie.Need-enum-told-2
 enum-told-2 c = search needs
@@ -35,16 +35,16 @@ refused-requires-3 : tie.Need-refused-requires-3
 refused-requires-3 c κs = search needs
 
 returns : tie.Need-returns
-returns c = c .listed .ensures ∙ listing-is _ _ (c .before .before .before .before .row-of .ensures) (c .before .before .before .before .before .before .pre) (c .before .before .enum-told .given .1)
+returns c = c .list-row .ensures ∙ listing-is _ _ (c .before .before .before .before .row-of .ensures .is) (c .before .before .before .before .before .before .pre) (c .before .before .enum-told .given .1)
 
 returns-2 : tie.Need-returns-2
-returns-2 c = c .refused .ensures ∙ refused-is _ _ (c .before .before .before .row-of .ensures) _ _ (c .before .enum-told2 .given .1) (λ a. refl)
+returns-2 c = c .refused .ensures ∙ refused-is _ _ (c .before .before .before .row-of .ensures .is) _ _ _ (c .before .enum-told2 .given .1) refl
 
 returns-3 : tie.Need-returns-3
-returns-3 c = c .refused2 .ensures ∙ refused-is _ _ (c .before .before .before .before .row-of .ensures) _ _ (c .before .before .check .given .1) (λ a. refl)
+returns-3 c = c .refused2 .ensures ∙ refused-is _ _ (c .before .before .before .before .row-of .ensures .is) _ _ _ (c .before .before .check .given .1) refl
 
 returns-4 : tie.Need-returns-4
-returns-4 c = c .refused3 .ensures ∙ refused-is _ _ (c .before .before .before .before .row-of .ensures) _ _ (c .before .before .check2 .given .1) (λ a. refl)
+returns-4 c = c .refused3 .ensures ∙ refused-is _ _ (c .before .before .before .before .row-of .ensures .is) _ _ _ (c .before .before .check2 .given .1) refl
 
 pub judge-spec : {M : Type 1} → statement M
 judge-spec =
@@ -52,7 +52,7 @@ judge-spec =
     (tie.spec
     row-of-requires
     enum-told
-    listed-requires
+    list-row-requires
     enum-told-2
     refused-requires
     enum-known-check

@@ -11,7 +11,7 @@ use Rattle.climb.proofs.Climbing.{steps-short, digits-long, values-long
 use Rattle.climb.proofs.choose.Reads as choose
 use Rattle.climb.proofs.choose.Kinds as choose-kinds
 use Rattle.climb.proofs.+choose.Lts-choose as choose-lts
-use Rattle.climb.proofs.flow_at.Reads as flow-at-reads
+use Rattle.tandem.proofs.flow_in.Reads as flow-in-reads
 use Rattle.climb.proofs.is_open.Reads as is-open-reads
 use Rattle.climb.proofs.is_past.Reads as is-past-reads
 use Rattle.climb.proofs.leaf.Reads as leaf-reads
@@ -40,8 +40,8 @@ choose-μ-loop flows k s wants best steps g c least fewer b₀ i₀ b i = steps 
 -- what the functions that it calls ask and give, itself with fewer groups to choose among them
 abbrev claims : ℕ → choose-lts.Claims
 claims t = (
-  flow-at-reads.Asked,
-  flow-at-reads.Learnt,
+  flow-in-reads.Asked,
+  flow-in-reads.Learnt,
   leaf-reads.Asked,
   leaf-reads.Learnt,
   lag-reads.Asked,
@@ -72,8 +72,8 @@ module _ (t : ℕ) where
         best = s .args .best;
         ready = s .pre .1;
         some = omega (arith, c .if1 .left);
-        group = c .before .flow-at .result;
-        is = c .before .flow-at .ensures;
+        group = c .before .flow-in .result;
+        is = c .before .flow-in .ensures .is;
       }
 
   -- a turn of the loop
@@ -83,7 +83,7 @@ module _ (t : ℕ) where
       record {
         call = call-at (l .before .before .before);
         least = l .lag .result;
-        lag = l .lag .ensures;
+        lag = l .lag .ensures .is;
         b = c .before .loop .b;
         i = c .before .loop .i;
         turning = c .before .loop .inv;
@@ -119,32 +119,34 @@ module _ (t : ℕ) where
       let n = o .turn .call in
       let P : ℕ → Type 0 = λ b. Turning (n .flows) (n .steps) (n .k) (n .s) (n .best) b (o .turn .i + 1) in
       ⊎-elim
-      (λ v. subst P (sym (v .2)) (turn-on o (v .1 .result) (v .1 .ensures)))
+      (λ v. subst P (sym (v .2)) (turn-on o (v .1 .result) (v .1 .ensures .is)))
       (λ v. subst P (sym (v .1)) (turn-short o (sym (c .before .is-open .ensures) ∙ v .0 .left)))
       (c .if3 .came)
 
-  choose-flow-at-requires : choose-lts.Need-flow-at-requires (claims t) (choose-at t) choose.Post choose-Inv-loop choose-μ-loop
-  choose-flow-at-requires c κs =
+  choose-flow-in-requires : choose-lts.Need-flow-in-requires (claims t) (choose-at t) choose.Post choose-Inv-loop choose-μ-loop
+  choose-flow-in-requires c κs =
       let r = c .before .pre .1 in
-      (omega (arith, r .reached), r .few)
+      (omega (arith, r .reached, r .few), omega (arith, r .reached))
 
   choose-leaf-requires : choose-lts.Need-leaf-requires (claims t) (choose-at t) choose.Post choose-Inv-loop choose-μ-loop
   choose-leaf-requires c κs =
       let s = c .before .before .before in
       let r = s .pre .1 in
       let z : s .args .k ≡ 0 = omega (arith, c .if1 .taken) in (
-        range-end _ _ _ _ _ _ r z (c .before .flow-at .result) (c .before .flow-at .ensures),
-        light-end _ _ _ _ _ _ r z (c .before .flow-at .result) (c .before .flow-at .ensures),
-        delay-end _ _ _ _ _ _ r z (c .before .flow-at .result) (c .before .flow-at .ensures),
+        range-end _ _ _ _ _ _ r z (c .before .flow-in .result) (c .before .flow-in .ensures .is),
+        light-end _ _ _ _ _ _ r z (c .before .flow-in .result) (c .before .flow-in .ensures .is),
+        delay-end _ _ _ _ _ _ r z (c .before .flow-in .result) (c .before .flow-in .ensures .is),
         number-small r,
       )
 
   choose-returns : choose-lts.Need-returns (claims t) (choose-at t) choose.Post choose-Inv-loop choose-μ-loop
-  choose-returns c =
-      let l = c .before .before in
-      let s = l .before .before in
-      let z : s .args .k ≡ 0 = omega (arith, c .before .if1 .taken) in
-      leaf-is _ _ _ _ _ _ (s .pre .1) z (l .flow-at .result) (l .flow-at .ensures) (c .leaf .result) (c .leaf .ensures)
+  choose-returns c = record {
+    is =
+        let l = c .before .before in
+        let s = l .before .before in
+        let z : s .args .k ≡ 0 = omega (arith, c .before .if1 .taken) in
+        leaf-is _ _ _ _ _ _ (s .pre .1) z (l .flow-in .result) (l .flow-in .ensures .is) (c .leaf .result) (c .leaf .ensures);
+  }
 
   choose-sub-lag : choose-lts.Need-sub-lag (claims t) (choose-at t) choose.Post choose-Inv-loop choose-μ-loop
   choose-sub-lag c = placed (call-at (c .before .before)) .enters
@@ -203,9 +205,11 @@ module _ (t : ℕ) where
   choose-is-past-requires c κs = asks-step (turn-at (c .before .before .before .before .before))
 
   choose-returns-2 : choose-lts.Need-returns-2 (claims t) (choose-at t) choose.Post choose-Inv-loop choose-μ-loop
-  choose-returns-2 c =
-      let l = c .before in
-      turn-past (turn-at (l .before .before .before .before .before .before)) (sym (l .is-past .ensures) ∙ c .if2 .taken)
+  choose-returns-2 c = record {
+    is =
+        let l = c .before in
+        turn-past (turn-at (l .before .before .before .before .before .before)) (sym (l .is-past .ensures) ∙ c .if2 .taken);
+  }
 
   choose-next-requires : choose-lts.Need-next-requires (claims t) (choose-at t) choose.Post choose-Inv-loop choose-μ-loop
   choose-next-requires c κs = takes (turn-at (c .before .before .before .before .before .before .before))
@@ -231,9 +235,11 @@ module _ (t : ℕ) where
   choose-loop-again c = turned-by c
 
   choose-returns-3 : choose-lts.Need-returns-3 (claims t) (choose-at t) choose.Post choose-Inv-loop choose-μ-loop
-  choose-returns-3 c =
-      let l = c .before .before in
-      end-turning (call-at (l .before .before .before .before .before)) (c .before .loop .b) (c .before .loop .i) (c .before .loop .inv) (c .loop-test .left)
+  choose-returns-3 c = record {
+    is =
+        let l = c .before .before in
+        end-turning (call-at (l .before .before .before .before .before)) (c .before .loop .b) (c .before .loop .i) (c .before .loop .inv) (c .loop-test .left);
+  }
 
 pub +choose-spec : {M : Type 1} → statement M
 +choose-spec =
@@ -243,7 +249,7 @@ pub +choose-spec : {M : Type 1} → statement M
     choose.Post
     choose-Inv-loop
     choose-μ-loop
-    (choose-flow-at-requires t)
+    (choose-flow-in-requires t)
     (choose-leaf-requires t)
     (choose-returns t)
     (choose-sub-lag t)

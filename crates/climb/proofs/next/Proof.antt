@@ -23,7 +23,7 @@ mul-t11 c = search needs
 
 returns : tie.Need-returns
 unfolding leftBy
-returns c = (c .before .before .before .left .ensures .1, refl, refl)
+returns c = (c .before .before .before .left .ensures .holds, refl, refl)
 
 pub next-spec : {M : Type 1} → statement M
 next-spec = tie.close (tie.spec sub-left left-requires mul-t9 add-t10 mul-t11 returns)

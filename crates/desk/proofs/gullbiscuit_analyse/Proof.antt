@@ -6,24 +6,31 @@ use native.Mathlib.Omega.{arith}
 use lib.ListN.{length-take, take}
 use lib.Seq.{length-take-le}
 use Rattle.analysis.specs.Verdict.{recordNumbers}
+use Rattle.sheet.specs.DetailLaws.{gives-detail, encode-all-few}
 use Rattle.desk.proofs.Answering.{Listed, listed, Turned, turned}
 use borrow.Author.Needs.{needs}
 use Rattle.desk.proofs.gullbiscuit_analyse.Statement.{statement}
 use Rattle.desk.proofs.gullbiscuit_analyse.Tie as tie
 
 -- a bound, with its record
-heard : (c : tie.Then1) → Listed (c .before .before .before .before .before .args .sheet .now) (c .before .before .analyse .result)
-heard c = listed _ _ (c .before .before .analyse .ensures) (sym (c .before .is-bounded .ensures) ∙ c .if1 .taken)
+heard : (c : tie.After-enum-told) → Listed (c .before .before .before .before .before .args .sheet .now) (c .before .before .analyse .result)
+heard c = listed _ _ (c .before .before .analyse .ensures .is) (c .enum-told .given .1)
 
 -- a refusal, with its detail
-told : (c : tie.Else1) → Turned (c .before .before .before .before .before .args .sheet .now) (c .before .before .analyse .result)
-told c = turned _ _ (λ i. omega (arith, c .before .before .before .before .shared-slice-known .given i)) (c .before .before .analyse .ensures) (sym (c .before .is-bounded .ensures) ∙ c .if1 .left)
+told : (c : tie.After-judged) → Turned (c .before .before .before .before .before .args .sheet .now) (c .judged .given .0 .0) (c .judged .given .0 .1 .0)
+told c = turned _ _ _ _ (λ i. omega (arith, c .before .before .before .before .shared-slice-known .given i)) (c .before .before .analyse .ensures .is) (c .judged .given .1)
 
 analyse-requires : tie.Need-analyse-requires
 analyse-requires c κs = search needs
 
-is-bounded-requires : tie.Need-is-bounded-requires
-is-bounded-requires c κs = search needs
+enum-known-judged : tie.Need-enum-known-judged
+enum-known-judged c = search needs
+
+pack-requires : tie.Need-pack-requires
+pack-requires c κs = told (c .before) .small
+
+enum-told : tie.Need-enum-told
+enum-told c = search needs
 
 record-of-requires : tie.Need-record-of-requires
 record-of-requires c κs = heard c .fits
@@ -32,42 +39,51 @@ array-share-prefix-numbers : tie.Need-array-share-prefix-numbers
 array-share-prefix-numbers c = search needs
 
 slice-aggregate-put-record : tie.Need-slice-aggregate-put-record
-slice-aggregate-put-record c = sym (length-take-le _ _ (omega (arith, c .before .before .record-of .ensures .few, c .before .before .record-of .ensures .long)))
+slice-aggregate-put-record c = let r = c .before .before .record-of in sym (length-take-le _ _ (omega (arith, r .ensures .few, r .ensures .long)))
 
 put-record-requires : tie.Need-put-record-requires
-put-record-requires c κs = omega (arith, length-take (c .before .before .before .record-of .result .count) (c .before .before .before .record-of .result .numbers), c .before .before .before .record-of .ensures .few)
+put-record-requires c κs =
+    let r = c .before .before .before .record-of in
+    omega (arith, length-take (r .result .count) (r .result .numbers), r .ensures .few)
+
+pack-requires-2 : tie.Need-pack-requires-2
+pack-requires-2 c κs =
+    let p = c .before .before in
+    let r = p .before .before .before .before in
+    let h = heard (r .before) in
+    let f = r .record-of .ensures .front ∙ h .numbers in
+    rw (p .put-record .ensures .0, f, gives-detail) (omega (arith, encode-all-few (recordNumbers (h .listing-of)), h .few))
+
+returns : tie.Need-returns
+returns c = let h = told (c .before .before) in record { gives = c .pack .ensures ∙ rw (h .verdict); holds = rw (h .verdict) }
 
 same-length : tie.Need-same-length
 same-length c = search needs
 
-returns : tie.Need-returns
-returns c = let h = heard (c .before .before .before .before .before .before .before) in let f = c .before .before .before .before .before .before .record-of .ensures .front ∙ h .numbers in (c .before .before .put-record .ensures .0 ∙ rw (f, h .verdict), c .before .before .put-record .ensures .1 ∙ rw (f, h .verdict))
-
-number-of-requires : tie.Need-number-of-requires
-number-of-requires c κs = search needs
-
-detail-of-requires : tie.Need-detail-of-requires
-detail-of-requires c κs = search needs
-
-as-one-requires : tie.Need-as-one-requires
-as-one-requires c κs = omega (arith, c .detail-of .ensures, told (c .before .before) .small)
-
 returns-2 : tie.Need-returns-2
-returns-2 c = let h = told (c .before .before .before) in (c .as-one .ensures ∙ rw (c .before .before .number-of .ensures, c .before .detail-of .ensures, h .verdict), rw (h .verdict))
+returns-2 c =
+    let p = c .before .before .before in
+    let r = p .before .before .before .before in
+    let h = heard (r .before) in
+    let f = r .record-of .ensures .front ∙ h .numbers in
+    record {
+      gives = c .pack2 .ensures ∙ rw (p .put-record .ensures .0, f, h .verdict);
+      holds = p .put-record .ensures .1 ∙ rw (f, h .verdict);
+    }
 
 pub gullbiscuit-analyse-spec : {M : Type 1} → statement M
 gullbiscuit-analyse-spec =
     tie.close
     (tie.spec
     analyse-requires
-    is-bounded-requires
+    enum-known-judged
+    pack-requires
+    enum-told
     record-of-requires
     array-share-prefix-numbers
     slice-aggregate-put-record
     put-record-requires
-    same-length
+    pack-requires-2
     returns
-    number-of-requires
-    detail-of-requires
-    as-one-requires
+    same-length
     returns-2)

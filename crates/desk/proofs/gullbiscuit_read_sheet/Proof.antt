@@ -3,7 +3,7 @@
 use mathlib.Core.Path.{ap, _∙_}
 use native.Mathlib.Omega.{arith}
 use Rattle.desk.specs.Packed.{packed}
-use Rattle.desk.specs.DetailLaws.{read-detail-small}
+use Rattle.sheet.specs.DetailLaws.{read-detail-small}
 use borrow.Author.Needs.{needs}
 use Rattle.desk.proofs.gullbiscuit_read_sheet.Statement.{statement}
 use Rattle.desk.proofs.gullbiscuit_read_sheet.Tie as tie
@@ -14,13 +14,13 @@ read-sheet-requires c κs = search needs
 pack-requires : tie.Need-pack-requires
 pack-requires c κs =
     let r = c .before .before in
-    rw (r .read-sheet .ensures .0) (read-detail-small _ _ (λ i. omega (arith, r .before .before .before .shared-slice-known .given i)))
+    rw (r .read-sheet .ensures .gives) (read-detail-small _ _ (λ i. omega (arith, r .before .before .before .shared-slice-known .given i)))
 
 same-length : tie.Need-same-length
 same-length c = search needs
 
 returns : tie.Need-returns
-returns c = let e = c .before .before .before .read-sheet .ensures in (c .pack .ensures ∙ ap packed (e .0), e .1)
+returns c = let e = c .before .before .before .read-sheet .ensures in record { gives = c .pack .ensures ∙ ap packed (e .gives); holds = e .holds }
 
 pub gullbiscuit-read-sheet-spec : {M : Type 1} → statement M
 gullbiscuit-read-sheet-spec =

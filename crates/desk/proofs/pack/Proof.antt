@@ -24,7 +24,7 @@ returns : tie.Need-returns
 returns c = c .as-one .ensures ∙ rw (c .before .before .outcome .given .1)
 
 returns-2 : tie.Need-returns-2
-returns-2 c = c .as-one2 .ensures ∙ rw (c .before .before .before .outcome2 .given .1, c .before .refusal-of .ensures)
+returns-2 c = c .as-one2 .ensures ∙ rw (c .before .before .before .outcome2 .given .1, c .before .refusal-of .ensures .is)
 
 pub pack-spec : {M : Type 1} → statement M
 pack-spec =

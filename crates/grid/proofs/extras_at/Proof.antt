@@ -59,10 +59,12 @@ loop-again c =
     decoding-turns (stepAt (a .start) (a .g)) (a .g) (a .groups) (a .number) (l .extra) (l .rest) (l .k) (omega arith) (omega arith) (l .inv)
 
 returns : tie.Need-returns Inv-loop μ-loop
-returns c =
-    let a = c .before .before .args in
-    let l = c .before .loop in
-    decoding-ends (stepAt (a .start) (a .g)) (a .g) (a .groups) (a .number) (l .extra) (l .rest) (l .k) (omega arith) (l .inv)
+returns c = record {
+  is =
+      let a = c .before .before .args in
+      let l = c .before .loop in
+      decoding-ends (stepAt (a .start) (a .g)) (a .g) (a .groups) (a .number) (l .extra) (l .rest) (l .k) (omega arith) (l .inv);
+}
 
 pub extras-at-spec : {M : Type 1} → statement M
 extras-at-spec =

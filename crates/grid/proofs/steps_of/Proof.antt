@@ -64,10 +64,12 @@ loop-again c =
     )
 
 returns : tie.Need-returns Inv-loop μ-loop
-returns c =
-    let l = c .before .loop in
-    let a = c .before .before .args in
-    stepping-ends (a .start) (a .g) (l .values) (l .digits) (l .count) (l .last) (l .i) (l .inv .1) (omega arith)
+returns c = record {
+  is =
+      let l = c .before .loop in
+      let a = c .before .before .args in
+      stepping-ends (a .start) (a .g) (l .values) (l .digits) (l .count) (l .last) (l .i) (l .inv .1) (omega arith);
+}
 
 pub steps-of-spec : {M : Type 1} → statement M
 steps-of-spec =

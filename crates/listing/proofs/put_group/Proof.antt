@@ -1,9 +1,11 @@
 -- `listing::put_group` meets its contract: its three parts are put behind one another.
 -- Assumes nothing.
 use native.Mathlib.Omega.{arith}
-use Rattle.listing.specs.Text.{groupWord, blank, waitWord, field, line, groupLine}
+use Rattle.listing.specs.Text.{groupWord, blank, waitWord, groupLine}
+use Rattle.text.specs.Lines.{field, line}
+use Rattle.text.specs.PutLaws.{put-long}
 use Rattle.listing.specs.TextLaws.{group-length}
-use Rattle.listing.proofs.Putting.{put-three, put-long}
+use Rattle.listing.proofs.Putting.{put-three}
 use borrow.Author.Needs.{needs}
 use Rattle.listing.proofs.put_group.Statement.{statement}
 use Rattle.listing.proofs.put_group.Tie as tie
@@ -22,7 +24,7 @@ put-field-requires-2 c κs =
     let f = c .before .before .before .before in
     let s = f .before .before .before .before in
     let l = put-long (field groupWord (s .args .first)) (s .args .page .now) (s .args .at) (f .put-field .ensures) in
-    omega (arith, s .pre, group-length (s .args .first) (s .args .last) (s .args .wait), f .put-field .ensures .0, l)
+    omega (arith, s .pre, group-length (s .args .first) (s .args .last) (s .args .wait), f .put-field .ensures .next, l)
 
 slice-aggregate-put-line : tie.Need-slice-aggregate-put-line
 slice-aggregate-put-line c = search needs
@@ -34,7 +36,7 @@ put-line-requires c κs =
     let s = f .before .before .before .before in
     let l = put-long (field groupWord (s .args .first)) (s .args .page .now) (s .args .at) (f .put-field .ensures) in
     let m = put-long (field blank (s .args .last)) _ (f .put-field .result) (q .put-field2 .ensures) in
-    omega (arith, s .pre, group-length (s .args .first) (s .args .last) (s .args .wait), f .put-field .ensures .0, q .put-field2 .ensures .0, l, m)
+    omega (arith, s .pre, group-length (s .args .first) (s .args .last) (s .args .wait), f .put-field .ensures .next, q .put-field2 .ensures .next, l, m)
 
 same-length : tie.Need-same-length
 same-length c = search needs

@@ -4,10 +4,12 @@ use Prim.Native.Nat.{ℕ, _+_, _≤_}
 use native.Mathlib.Omega.{arith}
 use lib.ListN.{length}
 use Rattle.analysis.specs.declared.Analysed.{Analysed}
-use Rattle.listing.specs.Text.{boundWord, startWord, gridWord, line, figureLines}
+use Rattle.listing.specs.Text.{boundWord, startWord, gridWord, figureLines}
+use Rattle.text.specs.Lines.{line}
+use Rattle.text.specs.PutLaws.{room-behind}
 use Rattle.listing.specs.TextLaws.{figures-length}
 use Rattle.listing.specs.Held.{groupsHeld}
-use Rattle.listing.proofs.Putting.{put-four, room-behind}
+use Rattle.listing.proofs.Putting.{put-four}
 use borrow.Author.Needs.{needs}
 use Rattle.listing.proofs.put_listing.Statement.{statement}
 use Rattle.listing.proofs.put_listing.Tie as tie
@@ -74,8 +76,7 @@ returns c =
     let t = g .before .before .before .before .before in
     let b = t .before .before .before .before .before in
     let s = b .before .before .before .before in
-    let p = put-four (line boundWord (s .args .found .bound)) (line startWord (s .args .found .start)) (line gridWord (s .args .found .grid)) (groupsHeld (s .args .found)) (s .args .page .now) 0 (b .put-line .ensures) (t .put-line2 .ensures) (g .put-line3 .ensures) (e .put-groups .ensures) in
-    (omega (arith, p .0), p .1)
+    put-four (line boundWord (s .args .found .bound)) (line startWord (s .args .found .start)) (line gridWord (s .args .found .grid)) (groupsHeld (s .args .found)) (s .args .page .now) 0 (b .put-line .ensures) (t .put-line2 .ensures) (g .put-line3 .ensures) (e .put-groups .ensures)
 
 pub put-listing-spec : {M : Type 1} → statement M
 put-listing-spec =

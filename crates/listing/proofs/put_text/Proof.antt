@@ -1,58 +1,79 @@
 -- `listing::put_text` meets its contract: where the listing stands its lines are put, and any other sheet has the line of its refusal.
 -- Assumes nothing.
-use mathlib.Core.Path.{sym, _∙_}
+use mathlib.Core.Path.{_≡_, sym, ap, _∙_}
+use native.Mathlib.Omega.{arith}
+use lib.ListN.{length}
+use Rattle.fields.specs.Refusal.{refusal}
+use Rattle.text.specs.Lines.{refusalLine}
+use Rattle.text.specs.declared.Printed.the-variants.{Answer, Refusal}
+use Rattle.listing.specs.Held.{listingHeld, textHeld, printedHeld}
 use Rattle.listing.specs.HeldLaws.{held-listing, held-refusal}
 use borrow.Author.Needs.{needs}
 use Rattle.listing.proofs.put_text.Statement.{statement}
 use Rattle.listing.proofs.put_text.Tie as tie
 
-is-bounded-requires : tie.Need-is-bounded-requires
-is-bounded-requires c κs = search needs
+-- the text and what is printed of it, in each of the two cases
+refusing : (c : tie.After-judged)
+    → (textHeld (c .before .before .before .args .found) ≡ refusalLine (refusal (c .judged .given .0 .0)) (c .judged .given .0 .1 .0))
+    × (printedHeld (c .before .before .before .args .found) ≡ Refusal (length (textHeld (c .before .before .before .args .found))))
+refusing c = held-refusal _ _ _ (c .judged .given .1)
+
+listing : (c : tie.After-enum-told) → (textHeld (c .before .before .before .args .found) ≡ listingHeld (c .before .before .before .args .found))
+    × (printedHeld (c .before .before .before .args .found) ≡ Answer (length (textHeld (c .before .before .before .args .found))))
+listing c = held-listing _ (c .enum-told .given .1)
+
+enum-known-judged : tie.Need-enum-known-judged
+enum-known-judged c = search needs
+
+refusal-of-requires : tie.Need-refusal-of-requires
+refusal-of-requires c κs = search needs
+
+put-refusal-requires : tie.Need-put-refusal-requires
+put-refusal-requires c κs =
+    let r = c .before in
+    let j = r .before .before in
+    rw (r .refusal-of .ensures .is) (omega (arith, ap length (refusing j .0), j .before .before .before .pre .1))
+
+enum-told : tie.Need-enum-told
+enum-told c = search needs
 
 put-listing-requires : tie.Need-put-listing-requires
 put-listing-requires c κs =
-    let s = c .before .before .before .before in
-    (s .pre .0, rw (← held-listing (s .args .found) (sym (c .before .before .is-bounded .ensures) ∙ c .before .if1 .taken)) (s .pre .1))
+    let t = c .before in
+    let s = t .before .before .before in
+    (s .pre .0, rw (← listing t .0) (s .pre .1))
 
 same-length : tie.Need-same-length
 same-length c = search needs
 
 returns : tie.Need-returns
 returns c =
-    let l = c .before .before in
-    let t = l .before .before in
-    rw (held-listing (c .before .before .before .before .before .before .before .args .found) (sym (t .before .is-bounded .ensures) ∙ t .if1 .taken)) (l .put-listing .ensures)
-
-number-of-requires : tie.Need-number-of-requires
-number-of-requires c κs = search needs
-
-detail-of-requires : tie.Need-detail-of-requires
-detail-of-requires c κs = search needs
-
-put-refusal-requires : tie.Need-put-refusal-requires
-put-refusal-requires c κs =
-    let s = c .before .before .before .before .before .before in
-    rw (c .before .before .number-of .ensures, c .before .detail-of .ensures, ← held-refusal (s .args .found) (sym (c .before .before .before .before .is-bounded .ensures) ∙ c .before .before .before .if1 .left)) (s .pre .1)
+    let p = c .before .before in
+    let r = p .before .before in
+    let h = refusing (r .before .before) in
+    let e = p .put-refusal .ensures in
+    (sym (h .1 ∙ rw (h .0, ← r .refusal-of .ensures .is) (ap Refusal (omega (arith, e .next)))), e .stored ∙ rw (h .0, r .refusal-of .ensures .is))
 
 same-length-2 : tie.Need-same-length-2
 same-length-2 c = search needs
 
 returns-2 : tie.Need-returns-2
 returns-2 c =
-    let r = c .before .before in
-    let d = r .before .before in
-    rw (held-refusal (c .before .before .before .before .before .before .before .before .before .args .found) (sym (d .before .before .before .is-bounded .ensures) ∙ d .before .before .if1 .left), ← d .before .number-of .ensures, ← d .detail-of .ensures) (r .put-refusal .ensures)
+    let p = c .before .before in
+    let h = listing (p .before .before) in
+    let e = p .put-listing .ensures in
+    (sym (h .1 ∙ rw (h .0) (ap Answer (omega (arith, e .next)))), e .stored ∙ rw (h .0))
 
 pub put-text-spec : {M : Type 1} → statement M
 put-text-spec =
     tie.close
     (tie.spec
-    is-bounded-requires
+    enum-known-judged
+    refusal-of-requires
+    put-refusal-requires
+    enum-told
     put-listing-requires
     same-length
     returns
-    number-of-requires
-    detail-of-requires
-    put-refusal-requires
     same-length-2
     returns-2)

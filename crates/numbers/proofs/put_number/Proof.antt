@@ -47,7 +47,7 @@ same-length : tie.Need-same-length Inv-loop μ-loop
 same-length c = search needs
 
 returns : tie.Need-returns Inv-loop μ-loop
-returns c = let e = last (c .before .loop .inv) (c .loop-test .left) in (e .0, e .1)
+returns c = let e = last (c .before .loop .inv) (c .loop-test .left) in record { next = e .0; holds = e .1 }
 
 pub put-number-spec : {M : Type 1} → statement M
 put-number-spec =

@@ -10,8 +10,8 @@ use lib.Seq.{length-take-le, getD-take}
 use Rattle.curves.specs.Curve.{Shape, leastWait, delay}
 use Rattle.curves.specs.Held.{Holds}
 use Rattle.curves.specs.HeldLaws.{holds-in-range, holds-leaving, holds-joined, holds-remainder, holds-wait, holds-delay}
-use Rattle.row.specs.declared.Server.{Server}
-use Rattle.row.specs.declared.Flow.{Flow}
+use Rattle.tandem.specs.declared.Server.{Server}
+use Rattle.tandem.specs.declared.Flow.{Flow}
 use Rattle.row.specs.declared.Row.{Row}
 use Rattle.tree.specs.Plan.{Top, alone, serverCurve, nodeOf}
 use Rattle.tree.specs.Fine.{Fine}
@@ -150,7 +150,7 @@ serves c =
     let i = c .before .before .before in
     let r = start (turn i) .args .t1 in
     let h = on-path i in
-    rw (getD-take (r .size) (r .servers) (j i - 1) (record { rate = 0; latency = 0 }) (omega arith)) (c .server .ensures .1)
+    rw (getD-take (r .size) (r .servers) (j i - 1) (record { rate = 0; latency = 0 }) (omega arith)) (c .server .ensures .holds)
 
 -- the walk's end: the whole curve of the path
 ended : (c : tie.After-loop2 Inv-loop2 μ-loop2 Inv-loop μ-loop) → Holds (c .before .loop2 .c) (curve (c .before .before .before))
@@ -169,7 +169,7 @@ module _ (c : tie.After-least-wait Inv-loop2 μ-loop2 Inv-loop μ-loop) where
       let s = start here .args in
       let p : 0 < at here = omega (arith, c .before .if2 .left) in
       rw (extra-at (s .t1 .count - 1) (s .t2) (at here) p (omega (arith, inside here)))
-      (ap (λ (n : ℕ). n + getD (s .t2) (at here - 1) 0) (holds-wait _ _ (ended (c .before .before)) (c .least-wait .ensures)))
+      (ap (λ (n : ℕ). n + getD (s .t2) (at here - 1) 0) (holds-wait _ _ (ended (c .before .before)) (c .least-wait .ensures .is)))
 
 none-requires : tie.Need-none-requires Inv-loop2 μ-loop2 Inv-loop μ-loop
 none-requires c κs = tt
@@ -196,7 +196,7 @@ loop2-holds c =
     let p = placed a in
     let n = a .before .none in
     subst (λ (g : Flow). Walking (ss s) (begins a) (curve a) (g .last) (n .result) (g .first)) h
-    (walk-begins (ss s) (getD (gs s) (at a) noFlow) _ _ (n .result) (n .ensures .1) (rw h (p .enters))
+    (walk-begins (ss s) (getD (gs s) (at a) noFlow) _ _ (n .result) (n .ensures .holds) (rw h (p .enters))
     (omega (arith, ap (λ (g : Flow). g .last) h, p .leaves, servers-are s)))
 
 mul-t : tie.Need-mul-t Inv-loop2 μ-loop2 Inv-loop μ-loop
@@ -236,7 +236,7 @@ loop2-again c =
     let i = c .before .before .before .before in
     let w = i .before .loop2 .inv in
     walk-turn _ _ _ _ _ _ (i .loop2-test .taken) w (c .join .result) (lone i (c .before .before .before .if1 .taken))
-    (holds-joined (w .holds) (serves (c .before)) (c .join .ensures .1))
+    (holds-joined (w .holds) (serves (c .before)) (c .join .ensures .holds))
 
 mul-join : tie.Need-mul-join Inv-loop2 μ-loop2 Inv-loop μ-loop
 mul-join c = let h = its-number c in omega (arith, start (turn (c .before)) .pre .0 .few)
@@ -285,7 +285,7 @@ loop2-again-2 c =
     let w = i .before .loop2 .inv in
     rw (its-end (c .before .before))
     (walk-turn-over _ _ _ _ _ _ (i .loop2-test .taken) w (g .left) (g .end) (c .join2 .result) (g .is) (g .marked .onward)
-    (holds-joined (w .holds) (g .marked .holds) (c .join2 .ensures .1)))
+    (holds-joined (w .holds) (g .marked .holds) (c .join2 .ensures .holds)))
 
 delay-requires : tie.Need-delay-requires Inv-loop2 μ-loop2 Inv-loop μ-loop
 unfolding nodeOf
@@ -300,12 +300,15 @@ returns c =
     let s = start a in
     let z : at a ≡ 0 = c .before .if2 .taken in
     let d = c .delay .result in
-    let e = holds-delay _ _ _ (ended (c .before .before)) (c .delay .ensures) in
+    let e = holds-delay _ _ _ (ended (c .before .before)) (c .delay .ensures .is) in
     let f = subst (λ (g : Flow). d ≡ delay (curve a) (g .burst) (g .rate)) (sym (group-is a)) e in
-    upto-root (ss s) (gs s) (extrasOf (s .args .t1) (s .args .t2)) (a .loop .lefts) (a .loop .waits) (a .loop .tops)
-    (subst (λ (n : ℕ). Upto (ss s) (gs s) (xs s) (suc n) (a .loop .lefts) (a .loop .waits) (a .loop .tops)) z (up a))
-    (omega (arith, groups-are s, s .pre .0 .some)) d
-    (subst (λ (n : ℕ). d ≡ delay (curveAt (ss s) (gs s) (xs s) n) (getD (gs s) n noFlow .burst) (getD (gs s) n noFlow .rate)) z f)
+    record {
+      is =
+          upto-root (ss s) (gs s) (extrasOf (s .args .t1) (s .args .t2)) (a .loop .lefts) (a .loop .waits) (a .loop .tops)
+          (subst (λ (n : ℕ). Upto (ss s) (gs s) (xs s) (suc n) (a .loop .lefts) (a .loop .waits) (a .loop .tops)) z (up a))
+          (omega (arith, groups-are s, s .pre .0 .some)) d
+          (subst (λ (n : ℕ). d ≡ delay (curveAt (ss s) (gs s) (xs s) n) (getD (gs s) n noFlow .burst) (getD (gs s) n noFlow .rate)) z f);
+    }
 
 least-wait-requires : tie.Need-least-wait-requires Inv-loop2 μ-loop2 Inv-loop μ-loop
 unfolding nodeOf
@@ -369,7 +372,7 @@ loop-again c =
     let g = group-is a in
     let e = getD (xs s) (at a) 0 in
     let p = subst (λ (f : Flow). Placed (s .args .t1 .size) f) (sym g) (placed a) in
-    let h = rw (waited l) at (holds-remainder _ _ _ (ended (l .before .before)) (c .remainder .ensures .1)) in
+    let h = rw (waited l) at (holds-remainder _ _ _ (ended (l .before .before)) (c .remainder .ensures .holds)) in
     let q = servers-are s in
     let n = groups-are s in
     let v : 0 < at a = omega (arith, l .before .if2 .left) in

@@ -55,7 +55,7 @@ same-length : tie.Need-same-length Inv-loop μ-loop
 same-length c = long (c .before .before .before .before .before .before .before .loop .inv)
 
 returns : tie.Need-returns Inv-loop μ-loop
-returns c = many (c .before .before .before .before .before .before .before .loop .inv) _ _ _ (omega (arith, c .before .before .before .before .before .before .loop-test .taken)) (c .before .before .before .before .before .byte-at .ensures) (sym (c .before .before .before .before .turn-of .ensures) ∙ c .before .before .x .given .1) (c .if1 .taken)
+returns c = let e = many (c .before .before .before .before .before .before .before .loop .inv) _ _ _ (omega (arith, c .before .before .before .before .before .before .loop-test .taken)) (c .before .before .before .before .before .byte-at .ensures) (sym (c .before .before .before .before .turn-of .ensures) ∙ c .before .before .x .given .1) (c .if1 .taken) in record { gives = e .0; holds = e .1 }
 
 mul-numbers : tie.Need-mul-numbers Inv-loop μ-loop
 mul-numbers c = search needs
@@ -73,7 +73,7 @@ same-length-2 : tie.Need-same-length-2 Inv-loop μ-loop
 same-length-2 c = long (c .before .before .before .before .before .before .loop .inv)
 
 returns-2 : tie.Need-returns-2 Inv-loop μ-loop
-returns-2 c = slips (c .before .before .before .before .before .before .loop .inv) _ _ (omega (arith, c .before .before .before .before .before .loop-test .taken)) (c .before .before .before .before .byte-at .ensures) (sym (c .before .before .before .turn-of .ensures) ∙ c .before .slip .given .1)
+returns-2 c = let e = slips (c .before .before .before .before .before .before .loop .inv) _ _ (omega (arith, c .before .before .before .before .before .loop-test .taken)) (c .before .before .before .before .byte-at .ensures) (sym (c .before .before .before .turn-of .ensures) ∙ c .before .slip .given .1) in record { gives = e .0; holds = e .1 }
 
 line-after-requires : tie.Need-line-after-requires Inv-loop μ-loop
 line-after-requires c κs = omega (arith, c .before .before .before .before .loop .inv .lines)
@@ -91,7 +91,7 @@ same-length-3 : tie.Need-same-length-3 Inv-loop μ-loop
 same-length-3 c = long (c .before .loop .inv)
 
 returns-3 : tie.Need-returns-3 Inv-loop μ-loop
-returns-3 c = ends (c .before .loop .inv) (omega arith)
+returns-3 c = let e = ends (c .before .loop .inv) (omega arith) in record { gives = e .0; holds = e .1 }
 
 pub numbers-of-text-spec : {M : Type 1} → statement M
 numbers-of-text-spec =

@@ -76,7 +76,7 @@ returns-2 c =
     let f = x .before .before .before .before in
     let s = f .before in
     number-best (s .args .row) (s .pre .0) (s .pre .1) (groups-full s) (s .args .t2) (s .pre .2) (f .curve-of .result) (f .curve-of .ensures) (x .flows-of .result) (x .flows-of .ensures .0) (x .flows-of .ensures .1)
-    (c .choose .result) (c .choose .ensures)
+    (c .choose .result) (c .choose .ensures .is)
 
 pub best-number-spec : {M : Type 1} → statement M
 best-number-spec =

@@ -7,7 +7,7 @@ use native.Mathlib.Omega.{arith}
 use borrow.Author.Needs.{needs}
 use lib.ListN.{length, getD, drop, length-map}
 use lib.Seq.{drop-cons, getD-take, length-take-le}
-use Rattle.row.specs.declared.Server.{Server}
+use Rattle.tandem.specs.declared.Server.{Server}
 use Rattle.point.specs.Point.{serversOf}
 use Rattle.search.proofs.Gathering.{Gathering, gathering-begins, gathering-small, gathering-turns, gathering-ends}
 use Rattle.search.proofs.curve_of.Statement.{statement}

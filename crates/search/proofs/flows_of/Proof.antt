@@ -7,13 +7,14 @@ use native.Mathlib.Omega.{arith}
 use lib.ListN.{length, getD, length-map}
 use borrow.Author.Needs.{needs}
 use Rattle.tree.specs.Planned.{noFlow}
-use Rattle.climb.specs.Flows.{flowAt}
-use Rattle.search.proofs.Planting.{listed-take, plant-flow, length-planted}
+use Rattle.tandem.specs.Lent.{lentFlow}
+use Rattle.tandem.specs.LentLaws.{listed-take}
+use Rattle.search.proofs.Planting.{plant-flow, length-planted}
 use Rattle.search.proofs.flows_of.Statement.{statement}
 use Rattle.search.proofs.flows_of.Tie as tie
 
 abbrev Inv-loop : tie.InvT-loop
-Inv-loop row n flows₀ k₀ flows k = (k ≤ n) × (length flows ≡ 128) × ((m : ℕ) → m < k → flowAt flows m ≡ getD (row .groups) m noFlow)
+Inv-loop row n flows₀ k₀ flows k = (k ≤ n) × (length flows ≡ 128) × ((m : ℕ) → m < k → lentFlow flows m ≡ getD (row .groups) m noFlow)
 
 abbrev μ-loop : tie.MeasureT-loop
 μ-loop row n flows₀ k₀ flows k = n - k

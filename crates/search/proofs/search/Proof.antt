@@ -7,7 +7,7 @@ use mathlib.Core.List.{List, _∷_}
 use Prim.Native.Nat.{ℕ, _-_}
 use native.Mathlib.Omega.{arith}
 use borrow.Author.Needs.{needs}
-use Rattle.row.specs.OfSheet.{padded}
+use Rattle.row.specs.RowFor.{padded}
 use Rattle.keys.specs.Numbers.{pointAt}
 use Rattle.grid.specs.Steps.{stepAt, stepsIn}
 use Rattle.tree.specs.Plan.{plan}
@@ -20,7 +20,7 @@ use Rattle.search.proofs.search.Tie as tie
 
 -- the start
 started : (v : tie.After-evaluate) → v .evaluate .result .delay ≡ startOf (v .before .args .row)
-started v = first-delay (v .before .args .row) (v .before .pre) (v .evaluate .result) (v .evaluate .ensures)
+started v = first-delay (v .before .args .row) (v .before .pre) (v .evaluate .result) (v .evaluate .ensures .is)
 
 evaluate-requires : tie.Need-evaluate-requires
 evaluate-requires c κs = (c .pre .shaped, first-fine (c .args .row) (c .pre))
@@ -31,7 +31,7 @@ found-at-requires c κs = search needs
 returns : tie.Need-returns
 returns c =
     let v = c .before .before .before in
-    found-none (v .before .args .row) (v .before .pre) (c .found-at .result) (v .evaluate .result) (v .evaluate .ensures) (inl (c .before .if1 .taken)) (c .found-at .ensures)
+    record { is = found-none (v .before .args .row) (v .before .pre) (c .found-at .result) (v .evaluate .result) (v .evaluate .ensures .is) (inl (c .before .if1 .taken)) (c .found-at .ensures) }
 
 steps-of-requires : tie.Need-steps-of-requires
 steps-of-requires c κs =
@@ -43,7 +43,7 @@ best-number-requires : tie.Need-best-number-requires
 best-number-requires c κs =
     let v = c .before .before .before in
     let s = v .before in
-    (s .pre, omega (arith, c .before .if1 .left), c .steps-of .ensures ∙ ap (λ (x : ℕ). stepsIn x (s .args .row .grid)) (started v))
+    (s .pre, omega (arith, c .before .if1 .left), c .steps-of .ensures .is ∙ ap (λ (x : ℕ). stepsIn x (s .args .row .grid)) (started v))
 
 found-at-requires-2 : tie.Need-found-at-requires-2
 found-at-requires-2 c κs = search needs
@@ -54,8 +54,8 @@ returns-2 c =
     let v = b .before .before .before .before in
     let d = v .before .args .row in
     let z : b .best-number .result ≡ 0 = omega (arith, c .before .if2 .taken) in
-    found-none d (v .before .pre) (c .found-at2 .result) (v .evaluate .result) (v .evaluate .ensures)
-    (inr (b .best-number .ensures ∙ ap (λ (k : ℕ). answerAt d (pointAt (stepAt (startOf d) (d .grid)) (d .grid) (d .count - 1) k)) z)) (c .found-at2 .ensures)
+    let e = b .best-number .ensures ∙ ap (λ (k : ℕ). answerAt d (pointAt (stepAt (startOf d) (d .grid)) (d .grid) (d .count - 1) k)) z in
+    record { is = found-none d (v .before .pre) (c .found-at2 .result) (v .evaluate .result) (v .evaluate .ensures .is) (inr e) (c .found-at2 .ensures) }
 
 sub-extras-at : tie.Need-sub-extras-at
 sub-extras-at c = search needs
@@ -73,7 +73,7 @@ extras : (c : tie.After-extras-at) → let v = c .before .before .before .before
 extras c =
     let v = c .before .before .before .before .before .before .before in
     let d = v .before .args .row in
-    c .extras-at .ensures ∙ ap (λ (x : ℕ). padded 32 0 (pointAt (stepAt x (d .grid)) (d .grid) (d .count - 1) (c .before .before .before .best-number .result))) (started v)
+    c .extras-at .ensures .is ∙ ap (λ (x : ℕ). padded 32 0 (pointAt (stepAt x (d .grid)) (d .grid) (d .count - 1) (c .before .before .before .best-number .result))) (started v)
 
 evaluate-requires-2 : tie.Need-evaluate-requires-2
 evaluate-requires-2 c κs =
@@ -94,8 +94,8 @@ returns-3 c =
     let v = b .before .before .before .before in
     let d = v .before .args .row in
     let h = c .found-at3 .ensures in
-    found-number d (v .before .pre) (c .found-at3 .result) (c .before .evaluate2 .result) (b .best-number .result)
-    (c .before .evaluate2 .ensures ∙ ap (λ (es : List ℕ). pointOf (answerAt d (extrasOf d es))) (extras e)) (b .best-number .ensures) (h .0 ∙ started v, h .1, h .2)
+    let p = c .before .evaluate2 .ensures .is ∙ ap (λ (es : List ℕ). pointOf (answerAt d (extrasOf d es))) (extras e) in
+    record { is = found-number d (v .before .pre) (c .found-at3 .result) (c .before .evaluate2 .result) (b .best-number .result) p (b .best-number .ensures) (h .0 ∙ started v, h .1, h .2) }
 
 pub search-spec : {M : Type 1} → statement M
 search-spec =

@@ -7,12 +7,12 @@ use native.Mathlib.Omega.{arith}
 use borrow.Author.Needs.{needs}
 use lib.ListN.{length, getD, drop, length-map}
 use lib.Seq.{drop-cons, getD-take, length-take-le}
-use Rattle.row.specs.declared.Flow.{Flow}
+use Rattle.tandem.specs.declared.Flow.{Flow}
 use Rattle.row.specs.declared.Row.{Row}
 use Rattle.tree.specs.Planned.{noFlow}
 use Rattle.tree.specs.Ordered.{Placed}
 use Rattle.point.specs.Point.{flowsOf}
-use Rattle.tree.specs.GridLaws.{each-at}
+use Rattle.ground.specs.EachLaws.{each-at}
 use Rattle.search.proofs.Wanting.{Wanting, wanting-begins, wanting-turns, wanting-ends}
 use Rattle.search.proofs.wants_of.Statement.{statement}
 use Rattle.search.proofs.wants_of.Tie as tie

@@ -29,7 +29,7 @@ width-requires : tie.Need-width-requires Inv-loop μ-loop
 width-requires c κs = search needs
 
 add-sum : tie.Need-add-sum Inv-loop μ-loop
-add-sum c = omega (arith, c .before .before .before .loop .inv .cap, c .before .before .before .loop .inv .few, c .before .before .before .before .before .pre, c .width .ensures, encode-few (getD (c .before .before .before .before .before .args .xs .now) (c .before .before .before .loop .i) 0))
+add-sum c = omega (arith, c .before .before .before .loop .inv .cap, c .before .before .before .loop .inv .few, c .before .before .before .before .before .pre, c .width .ensures .is, encode-few (getD (c .before .before .before .before .before .args .xs .now) (c .before .before .before .loop .i) 0))
 
 add-i : tie.Need-add-i Inv-loop μ-loop
 add-i c = search needs
@@ -38,10 +38,10 @@ loop-less : tie.Need-loop-less Inv-loop μ-loop
 loop-less c = search needs
 
 loop-again : tie.Need-loop-again Inv-loop μ-loop
-loop-again c = turn-counting (c .before .before .before .loop .inv) (c .before .before .loop-test .taken) (c .width .ensures)
+loop-again c = turn-counting (c .before .before .before .loop .inv) (c .before .before .loop-test .taken) (c .width .ensures .is)
 
 returns : tie.Need-returns Inv-loop μ-loop
-returns c = counted (c .before .loop .inv) (c .loop-test .left)
+returns c = record { is = counted (c .before .loop .inv) (c .loop-test .left) }
 
 pub list-width-spec : {M : Type 1} → statement M
 list-width-spec =

@@ -1,7 +1,6 @@
 -- `sheet::read_sheet` meets its contract: a refusal is given before anything is stored, and the numbers listed are copied whole.
 -- Assumes nothing.
 use native.Mathlib.Omega.{arith}
-use mathlib.Core.Path.{_≡_, sym, _∙_}
 use lib.ListN.{take}
 use Rattle.sheet.specs.Sheet.{sheetOf}
 use Rattle.sheet.proofs.Reading.{Whole, whole, short, full, stopped}
@@ -40,7 +39,7 @@ same-length : tie.Need-same-length
 same-length c = search needs
 
 returns-2 : tie.Need-returns-2
-returns-2 c = let f = full _ _ _ _ (listed (c .before .before .before .before .before .before .before)) (c .before .before .before .before .before .if1 .left) in (f .0, c .before .before .copy-front .ensures ∙ f .1)
+returns-2 c = full _ _ _ _ _ (listed (c .before .before .before .before .before .before .before)) (c .before .before .before .before .before .if1 .left) (c .before .before .copy-front .ensures)
 
 returns-3 : tie.Need-returns-3
 returns-3 c = stopped _ _ _ _ _ _ (c .before .before .before .before .numbers-of .ensures .0) (c .before .why .given .1)

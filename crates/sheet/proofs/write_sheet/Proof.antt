@@ -1,7 +1,6 @@
 -- `sheet::write_sheet` meets its contract: the list is checked, and room is seen to, before the first byte is stored.
 -- Assumes nothing.
 use native.Mathlib.Omega.{arith}
-use mathlib.Core.Path.{_∙_}
 use Rattle.sheet.proofs.Writing.{Sized, sized, short-writing, full-writing, stopped-writing}
 use borrow.Author.Needs.{needs}
 use Rattle.sheet.proofs.write_sheet.Statement.{statement}
@@ -29,7 +28,7 @@ same-length : tie.Need-same-length
 same-length c = search needs
 
 returns-2 : tie.Need-returns-2
-returns-2 c = let f = full-writing _ _ _ (whole (c .before .before .before .before .before .before)) (c .before .before .before .before .if1 .left) in (f .0, c .before .before .put-all .ensures ∙ f .1)
+returns-2 c = full-writing _ _ _ _ (whole (c .before .before .before .before .before .before)) (c .before .before .before .before .if1 .left) (c .before .before .put-all .ensures .holds)
 
 returns-3 : tie.Need-returns-3
 returns-3 c = stopped-writing _ _ _ _ _ (c .before .before .before .check-list .ensures) (c .before .why .given .1)

@@ -26,7 +26,7 @@ loop-again : tie.Need-loop-again Inv-loop μ-loop
 loop-again c = count (c .before .loop .inv) (omega arith)
 
 returns : tie.Need-returns Inv-loop μ-loop
-returns c = counted (c .before .loop .inv) (omega arith)
+returns c = record { is = counted (c .before .loop .inv) (omega arith) }
 
 pub decimal-width-spec : {M : Type 1} → statement M
 decimal-width-spec =

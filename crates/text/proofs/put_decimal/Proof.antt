@@ -4,9 +4,6 @@
 use borrow.Author.Needs.{needs}
 use native.Mathlib.Omega.{arith}
 use Rattle.text.proofs.Putting.{Putting, begin, next, some, last}
-use borrow.Author.Needs.{needs}
-use native.Mathlib.Omega.{arith}
-use Rattle.text.proofs.Putting.{Putting, begin, next, some, last}
 use Rattle.text.proofs.put_decimal.Statement.{statement}
 use Rattle.text.proofs.put_decimal.Tie as tie
 use Rattle.text.proofs.decimal_width.Reads as decimal-width-reads
@@ -21,10 +18,10 @@ decimal-width-requires : tie.Need-decimal-width-requires Inv-loop μ-loop
 decimal-width-requires c κs = search needs
 
 add-end : tie.Need-add-end Inv-loop μ-loop
-add-end c = search needs
+add-end c = omega (arith, c .decimal-width .ensures .is, c .before .before .pre)
 
 loop-holds : tie.Need-loop-holds Inv-loop μ-loop
-loop-holds c = begin (c .before .before .args .buf .now) (c .before .before .args .at) (c .before .before .args .x) _ (omega arith) (omega (arith, c .decimal-width .ensures)) (c .before .before .pre)
+loop-holds c = begin (c .before .before .args .buf .now) (c .before .before .args .at) (c .before .before .args .x) _ (omega arith) (omega (arith, c .decimal-width .ensures .is)) (c .before .before .pre)
 
 sub-p : tie.Need-sub-p Inv-loop μ-loop
 sub-p c = omega (arith, some (c .before .loop .inv))
@@ -57,7 +54,7 @@ same-length : tie.Need-same-length Inv-loop μ-loop
 same-length c = search needs
 
 returns : tie.Need-returns Inv-loop μ-loop
-returns c = (omega (arith, c .before .before .decimal-width .ensures), last (c .before .loop .inv) (omega arith))
+returns c = record { next = omega (arith, c .before .before .decimal-width .ensures .is); stored = last (c .before .loop .inv) (omega arith) }
 
 pub put-decimal-spec : {M : Type 1} → statement M
 put-decimal-spec =

@@ -43,7 +43,7 @@ same-length : tie.Need-same-length Inv-loop μ-loop
 same-length c = c .before .loop .inv .long
 
 returns : tie.Need-returns Inv-loop μ-loop
-returns c = (search needs, copied (c .before .loop .inv) (c .loop-test .left))
+returns c = record { next = search needs; stored = copied (c .before .loop .inv) (c .loop-test .left) }
 
 pub put-word-spec : {M : Type 1} → statement M
 put-word-spec =

@@ -28,15 +28,15 @@ by-wait : (c : tie.After-least-wait) → let s = c .before in
 by-wait c =
     let s = c .before in
     let a = shapeOf (s .args .self) in (
-      rw (c .least-wait .ensures) (delay-by-wait a (s .args .sigma) (s .args .rho) (live-rates (a .stages) (s .pre .0 .live))),
-      rw (c .least-wait .ensures) (wait-after-offset a (s .args .sigma + s .args .rho)),
+      rw (c .least-wait .ensures .is) (delay-by-wait a (s .args .sigma) (s .args .rho) (live-rates (a .stages) (s .pre .0 .live))),
+      rw (c .least-wait .ensures .is) (wait-after-offset a (s .args .sigma + s .args .rho)),
     )
 
 returns : tie.Need-returns
-returns c = let d = by-wait (c .before .before) in omega (arith, d .0, d .1)
+returns c = record { is = let d = by-wait (c .before .before) in omega (arith, d .0, d .1) }
 
 returns-2 : tie.Need-returns-2
-returns-2 c = let d = by-wait (c .before .before) in omega (arith, d .0, d .1)
+returns-2 c = record { is = let d = by-wait (c .before .before) in omega (arith, d .0, d .1) }
 
 pub delay-spec : {M : Type 1} → statement M
 delay-spec = tie.close (tie.spec add-least-wait least-wait-requires sub-result returns returns-2)

@@ -8,7 +8,7 @@ use lib.ListN.{length, drop, length-set, length-map}
 use lib.Seq.{paste, paste-zero, paste-suc}
 use Rattle.curves.specs.Curve.{joined}
 use Rattle.curves.specs.Held.{shapeOf, spare, blank}
-use Rattle.curves.specs.HeldLaws.{held-both, held-joined}
+use Rattle.curves.specs.HeldLaws.{held-holds, held-joined}
 use Rattle.curves.proofs.Curve.join.Statement.{statement}
 use Rattle.curves.proofs.Curve.join.Tie as tie
 
@@ -69,8 +69,7 @@ returns c =
     let m = c .before .before .loop in
     let h = sixteen s in
     let e : m .i ≡ s .args .t2 .count = omega arith in
-    held-both (joined (shapeOf (s .args .self)) (shapeOf (s .args .t2))) (drop (s .args .t2 .count) (spare (s .args .self)))
-    (rw (m .inv .1, e) (held-joined (s .args .self) (s .args .t2) (omega (arith, h .0)) (omega (arith, h .1))))
+    record { is = rw (m .inv .1, e) (held-joined (s .args .self) (s .args .t2) (omega (arith, h .0)) (omega (arith, h .1))); holds = held-holds (joined (shapeOf (s .args .self)) (shapeOf (s .args .t2))) (drop (s .args .t2 .count) (spare (s .args .self))) (rw (m .inv .1, e) (held-joined (s .args .self) (s .args .t2) (omega (arith, h .0)) (omega (arith, h .1)))) }
 
 pub join-spec : {M : Type 1} → statement M
 join-spec =

@@ -45,10 +45,10 @@ loop-again c =
     let s = c .before .before .before .before in
     let l = sixteen s in
     let m = c .before .before .before .loop in
-    turn-lag (m .inv) (omega arith) (omega arith) (omega arith) _ (c .catch-up .ensures)
+    turn-lag (m .inv) (omega arith) (omega arith) (omega arith) _ (c .catch-up .ensures .is)
 
 returns : tie.Need-returns Inv-loop μ-loop
-returns c = end-lag (c .before .loop .inv) (omega arith)
+returns c = record { is = end-lag (c .before .loop .inv) (omega arith) }
 
 pub lag-spec : {M : Type 1} → statement M
 lag-spec =

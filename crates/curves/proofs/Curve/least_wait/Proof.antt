@@ -19,12 +19,14 @@ add-result c =
     let s = c .before .before in
     let a = s .args .self in
     let l = lag-le (shapeOf a) 0 (a .count) (s .args .sigma) (live-rates (slice 0 (a .count) (shapeOf a .stages)) (all-whole Live a (s .pre .0 .live))) in
-    omega (arith, l, c .before .lag .ensures, s .pre .0 .near, s .pre .1)
+    omega (arith, l, c .before .lag .ensures .is, s .pre .0 .near, s .pre .1)
 
 returns : tie.Need-returns
-returns c =
-    let s = c .before .before in
-    ap (λ (n : ℕ). s .args .self .offset + n) (c .before .lag .ensures) ∙ lag-whole (s .args .self) (s .args .sigma)
+returns c = record {
+  is =
+      let s = c .before .before in
+      ap (λ (n : ℕ). s .args .self .offset + n) (c .before .lag .ensures .is) ∙ lag-whole (s .args .self) (s .args .sigma);
+}
 
 pub least-wait-spec : {M : Type 1} → statement M
 least-wait-spec = tie.close (tie.spec lag-requires add-result returns)

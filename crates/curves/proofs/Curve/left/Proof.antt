@@ -8,7 +8,7 @@ use native.Mathlib.Omega.{arith}
 use lib.ListN.{length, length-map}
 use Rattle.curves.specs.Curve.{after}
 use Rattle.curves.specs.Held.{shapeOf, spare, Leaves, blank}
-use Rattle.curves.specs.HeldLaws.{held-both}
+use Rattle.curves.specs.HeldLaws.{held-holds}
 use Rattle.curves.specs.Part.{changed, leftIn}
 use Rattle.curves.specs.PartLaws.{changed-outside, changed-more, changed-none, held-left}
 use Rattle.curves.proofs.Parts.{part-at}
@@ -65,7 +65,7 @@ loop-again c =
     let p : m .i < length (a .self .stages) = omega arith in (
       omega (arith, m .inv .0),
       omega arith,
-      rw (c .after .ensures, m .inv .2, e, add-one (m .i)) (changed-more f (a .from) (m .i) (a .self .stages) blank (m .inv .0) p),
+      rw (c .after .ensures .is, m .inv .2, e, add-one (m .i)) (changed-more f (a .from) (m .i) (a .self .stages) blank (m .inv .0) p),
       m .inv .3,
       m .inv .4,
     )
@@ -78,8 +78,7 @@ returns c =
     let m = c .before .before .loop in
     let a = c .before .before .before .args in
     let e : m .i ≡ a .to = omega (arith, m .inv .1) in
-    held-both (leftIn (shapeOf (a .self)) (a .from) (a .to) (a .sigma) (a .rho) (a .gap)) (spare (a .self))
-    (rw (m .inv .2, m .inv .3, e) (held-left (a .self) (a .from) (a .to) (a .sigma) (a .rho) (a .gap) (omega arith) (omega (arith, m .inv .4))))
+    record { is = rw (m .inv .2, m .inv .3, e) (held-left (a .self) (a .from) (a .to) (a .sigma) (a .rho) (a .gap) (omega arith) (omega (arith, m .inv .4))); holds = held-holds (leftIn (shapeOf (a .self)) (a .from) (a .to) (a .sigma) (a .rho) (a .gap)) (spare (a .self)) (rw (m .inv .2, m .inv .3, e) (held-left (a .self) (a .from) (a .to) (a .sigma) (a .rho) (a .gap) (omega arith) (omega (arith, m .inv .4)))) }
 
 pub left-spec : {M : Type 1} → statement M
 left-spec =

@@ -9,7 +9,7 @@ use Rattle.curves.proofs.Curve.none.Tie as tie
 
 returns : tie.Need-returns
 unfolding held neutral
-returns c = held-both neutral (replicate 16 blank) refl
+returns c = let h = held-both neutral (replicate 16 blank) refl in record { is = h .0; holds = h .1 }
 
 pub none-spec : {M : Type 1} → statement M
 none-spec = tie.close (tie.spec returns)

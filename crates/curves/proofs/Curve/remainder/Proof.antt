@@ -23,7 +23,9 @@ returns : tie.Need-returns
 returns c =
     let s = c .before .before in
     let a = s .args in
-    subst (λ (d : Shape). (c .left .result ≡ held d (spare (a .self))) × Holds (c .left .result) d) (left-whole (a .self) (a .sigma) (a .rho) (a .wait) (s .pre .late)) (c .left .ensures)
+    let made =
+    subst (λ (d : Shape). (c .left .result ≡ held d (spare (a .self))) × Holds (c .left .result) d) (left-whole (a .self) (a .sigma) (a .rho) (a .wait) (s .pre .late)) (c .left .ensures .is, c .left .ensures .holds) in
+    record { is = made .0; holds = made .1 }
 
 pub remainder-spec : {M : Type 1} → statement M
 remainder-spec = tie.close (tie.spec sub-left left-requires returns)

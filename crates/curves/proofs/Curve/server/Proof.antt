@@ -13,7 +13,7 @@ array-set-from-stages c = search needs
 
 returns : tie.Need-returns
 unfolding held server
-returns c = held-both (server _ _) (replicate 15 blank) refl
+returns c = let h = held-both (server _ _) (replicate 15 blank) refl in record { is = h .0; holds = h .1 }
 
 pub server-spec : {M : Type 1} → statement M
 server-spec = tie.close (tie.spec array-set-from-stages returns)

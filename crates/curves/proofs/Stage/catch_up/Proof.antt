@@ -32,14 +32,18 @@ div-result c = search needs
 
 returns : tie.Need-returns
 unfolding ceil catchUp
-returns c =
-    let s = c .before .before .before .before .before .before in
-    omega (arith, catch-up-more (s .args .sigma) (s .args .most) (s .args .self) (s .pre .0 .moves) (omega arith))
+returns c = record {
+  is =
+      let s = c .before .before .before .before .before .before in
+      omega (arith, catch-up-more (s .args .sigma) (s .args .most) (s .args .self) (s .pre .0 .moves) (omega arith));
+}
 
 returns-2 : tie.Need-returns-2
-returns-2 c =
-    let s = c .before .before .before in
-    omega (arith, catch-up-least (s .args .sigma) (s .args .most) (s .args .self) (s .pre .0 .moves) (omega arith))
+returns-2 c = record {
+  is =
+      let s = c .before .before .before in
+      omega (arith, catch-up-least (s .args .sigma) (s .args .most) (s .args .self) (s .pre .0 .moves) (omega arith));
+}
 
 pub catch-up-spec : {M : Type 1} → statement M
 catch-up-spec =

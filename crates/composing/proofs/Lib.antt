@@ -1,0 +1,2 @@
+pub mod Complaining
+pub mod Making

@@ -1,0 +1,59 @@
+-- P7 shown and composed, which meets every hypothesis of `shown-composed`, and the line of a text whose edition is wrong, computed.
+-- Assumes nothing.
+use Prim.Native.Nat.{ℕ, zero, suc}
+use mathlib.Core.Path.{_≡_, refl}
+use native.Mathlib.Omega.{arith}
+use mathlib.Core.List.{List, [], _∷_, _++_}
+use Rattle.numbers.specs.Seven.{numberAt, encode}
+use Rattle.numbers.specs.SevenLaws.{Bytes}
+use Rattle.fields.specs.Rule.{ruleAt, fieldAt, seenAfter}
+use Rattle.fields.specs.Step.{stepOn}
+use Rattle.sheet.specs.Sheet.{sheetOf, listOf}
+use Rattle.text.specs.Decimal.{decimal}
+use Rattle.text.specs.Lines.{field}
+use Rattle.scribe.specs.Text.{isBlank, isDigit, outsideBy, longerBy, insideBy, turnOf, lineAfter, textOf}
+use Rattle.naming.specs.Names.{nameOf, ownerAt, endsOf, rangeOf}
+use Rattle.showing.specs.Shown.{shown}
+use Rattle.composing.specs.Composed.{lineOf, placeText, fieldName, outsideText, outsideLine, faultEnd, faultText, complaint, made, wrong, composed}
+use Rattle.composing.specs.ComposedLaws.{shown-composed}
+
+-- P7: R 10, T 0; cross 10, 6; watched 12, 4; g 4: its numbers are its bytes
+abbrev pub P7 : List ℕ
+P7 = 1 ∷ 1 ∷ 10 ∷ 0 ∷ 1 ∷ 1 ∷ 1 ∷ 10 ∷ 6 ∷ 12 ∷ 4 ∷ 0 ∷ 4 ∷ []
+
+P7-bytes : Bytes P7
+P7-bytes zero = omega arith
+P7-bytes (suc zero) = omega arith
+P7-bytes (suc (suc zero)) = omega arith
+P7-bytes (suc (suc (suc zero))) = omega arith
+P7-bytes (suc (suc (suc (suc zero)))) = omega arith
+P7-bytes (suc (suc (suc (suc (suc zero))))) = omega arith
+P7-bytes (suc (suc (suc (suc (suc (suc zero)))))) = omega arith
+P7-bytes (suc (suc (suc (suc (suc (suc (suc zero))))))) = omega arith
+P7-bytes (suc (suc (suc (suc (suc (suc (suc (suc zero)))))))) = omega arith
+P7-bytes (suc (suc (suc (suc (suc (suc (suc (suc (suc zero))))))))) = omega arith
+P7-bytes (suc (suc (suc (suc (suc (suc (suc (suc (suc (suc zero)))))))))) = omega arith
+P7-bytes (suc (suc (suc (suc (suc (suc (suc (suc (suc (suc (suc zero))))))))))) = omega arith
+P7-bytes (suc (suc (suc (suc (suc (suc (suc (suc (suc (suc (suc (suc zero)))))))))))) = omega arith
+P7-bytes (suc (suc (suc (suc (suc (suc (suc (suc (suc (suc (suc (suc (suc i))))))))))))) = omega arith
+
+-- what is shown of it is composed to it
+pub P7-composed : composed (shown P7) ≡ made P7
+unfolding sheetOf stepOn ruleAt fieldAt seenAfter numberAt
+P7-composed = shown-composed P7 P7 P7-bytes refl
+
+-- "2", whose edition is not 1
+abbrev pub second : List ℕ
+second = 50 ∷ []
+
+-- "line 1: number 0 (edition) is 2, outside 1..1"
+abbrev pub complained : List ℕ
+complained =
+    (108 ∷ 105 ∷ 110 ∷ 101 ∷ 32 ∷ 49 ∷ 58 ∷ 32 ∷ [])
+    ++ (110 ∷ 117 ∷ 109 ∷ 98 ∷ 101 ∷ 114 ∷ 32 ∷ 48 ∷ 32 ∷ 40 ∷ 101 ∷ 100 ∷ 105 ∷ 116 ∷ 105 ∷ 111 ∷ 110 ∷ 41 ∷ 32 ∷ [])
+    ++ (105 ∷ 115 ∷ 32 ∷ 50 ∷ 44 ∷ 32 ∷ 111 ∷ 117 ∷ 116 ∷ 115 ∷ 105 ∷ 100 ∷ 101 ∷ 32 ∷ 49 ∷ 46 ∷ 46 ∷ 49 ∷ 10 ∷ [])
+
+pub second-wrong : composed second ≡ wrong complained
+unfolding composed textOf turnOf outsideBy insideBy longerBy isBlank isDigit lineAfter listOf stepOn ruleAt fieldAt seenAfter complaint lineOf placeText
+    faultText faultEnd outsideLine outsideText fieldName nameOf ownerAt rangeOf endsOf field decimal
+second-wrong = refl

@@ -1,0 +1,6 @@
+pub mod Composed
+pub mod Inside
+pub mod Contract
+pub mod ComposedLaws
+pub mod Unique
+pub mod Figures

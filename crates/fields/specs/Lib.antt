@@ -1,0 +1,10 @@
+pub mod Rule
+pub mod Cursor
+pub mod Step
+pub mod Refusal
+pub mod Contract
+pub mod Unique
+pub mod StepLaws
+pub mod PlaceLaws
+pub mod CursorLaws
+pub mod Figures

@@ -1,0 +1,6 @@
+pub mod OrderLaws
+pub mod ValueLaws
+pub mod Each
+pub mod EachLaws
+pub mod Buffer
+pub mod BufferLaws

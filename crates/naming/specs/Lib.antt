@@ -1,0 +1,4 @@
+pub mod Names
+pub mod Contract
+pub mod NamesLaws
+pub mod Unique

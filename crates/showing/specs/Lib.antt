@@ -1,0 +1,5 @@
+pub mod Shown
+pub mod Contract
+pub mod ShownLaws
+pub mod ReadLaws
+pub mod Unique

@@ -1,0 +1,66 @@
+-- `tandem::watched_flow` meets its contract: its bucket stands behind the cross flows, and its path is the row.
+-- Assumes nothing.
+use borrow.Author.Needs.{needs}
+use Rattle.tandem.proofs.watched_flow.Statement.{statement}
+use Rattle.tandem.proofs.watched_flow.Tie as tie
+
+server-count-requires : tie.Need-server-count-requires
+server-count-requires c κs = search needs
+
+flow-count-requires : tie.Need-flow-count-requires
+flow-count-requires c κs = search needs
+
+mul-at : tie.Need-mul-at
+mul-at c = search needs
+
+add-at : tie.Need-add-at
+add-at c = search needs
+
+mul-at-2 : tie.Need-mul-at-2
+mul-at-2 c = search needs
+
+add-at-2 : tie.Need-add-at-2
+add-at-2 c = search needs
+
+mul-wide : tie.Need-mul-wide
+mul-wide c = search needs
+
+shared-slice-read-wide : tie.Need-shared-slice-read-wide
+shared-slice-read-wide c = search needs
+
+wide-requires : tie.Need-wide-requires
+wide-requires c κs = search needs
+
+add-wide : tie.Need-add-wide
+add-wide c = search needs
+
+mul-wide-2 : tie.Need-mul-wide-2
+mul-wide-2 c = search needs
+
+shared-slice-read-wide-2 : tie.Need-shared-slice-read-wide-2
+shared-slice-read-wide-2 c = search needs
+
+wide-requires-2 : tie.Need-wide-requires-2
+wide-requires-2 c κs = search needs
+
+returns : tie.Need-returns
+returns c = record { is = rw (c .before .before .wide .ensures, c .wide2 .ensures, c .before .before .before .before .flow-count .ensures .is, c .before .before .before .before .before .server-count .ensures .is) }
+
+pub watched-flow-spec : {M : Type 1} → statement M
+watched-flow-spec =
+    tie.close
+    (tie.spec
+    server-count-requires
+    flow-count-requires
+    mul-at
+    add-at
+    mul-at-2
+    add-at-2
+    mul-wide
+    shared-slice-read-wide
+    wide-requires
+    add-wide
+    mul-wide-2
+    shared-slice-read-wide-2
+    wide-requires-2
+    returns)

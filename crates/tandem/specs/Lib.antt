@@ -1,0 +1,16 @@
+pub mod Sums
+pub mod Tandem
+pub mod Crowded
+pub mod Sound
+pub mod Ranges
+pub mod OfSheet
+pub mod Loads
+pub mod TestLaws
+pub mod SumLaws
+pub mod TandemLaws
+pub mod CrowdedLaws
+pub mod OfSheetLaws
+pub mod Lent
+pub mod LentLaws
+pub mod Contract
+pub mod Unique
