@@ -1,15 +1,16 @@
 -- Laws of the records that hold curves: what is held can be read back, and what the methods make is held.
 -- Assumes nothing.
-use mathlib.Core.Path.{_≡_, refl, sym, subst}
-use mathlib.Core.List.{List}
-use Prim.Native.Nat.{ℕ, _+_, _-_, _≤_, _<_, _^_}
+use mathlib.Core.Path.{_≡_, refl, sym, ap, _∙_, subst}
+use mathlib.Core.List.{List, [], _∷_, _++_}
+use Prim.Native.Nat.{ℕ, zero, suc, _+_, _-_, _≤_, _<_, _^_}
 use native.Mathlib.Nat.{mul-le-mul}
+use native.Mathlib.Numerals.{add-one}
 use native.Mathlib.Omega.{arith}
-use lib.ListN.{length, drop}
-use lib.Seq.{paste, drop-drop, length-paste-head, take-at}
+use lib.ListN.{length, length-append, length-drop, set, take, drop}
+use lib.Seq.{paste, drop-drop, length-paste-head, length-take-le, take-at}
 use Rattle.curves.specs.declared.Stage.{Stage}
 use Rattle.curves.specs.declared.Curve.{Curve}
-use Rattle.curves.specs.Curve.{Shape, line, joined, remainder, leastWait, delay, All, Rates}
+use Rattle.curves.specs.Curve.{Shape, line, server, joined, remainder, leastWait, delay, All, Rates}
 use Rattle.curves.specs.Held.{shapeOf, spare, held, Holds, Live, Leaves, InRange, Leaving}
 use Rattle.curves.specs.StageLaws.{all-weaken, all-both}
 use Rattle.curves.specs.CurveLaws.{wait-after-offset, wait-enough}
@@ -30,6 +31,12 @@ pub held-joined : (a b : Curve) → a .count ≤ length (a .stages) → b .count
     (held (joined (shapeOf a) (shapeOf b)) (drop (b .count) (spare a)))
 unfolding held joined
 held-joined a b h k = rw (length-paste-head (a .stages) (a .count) (b .stages) (b .count) h k, drop-drop)
+
+-- an entry put behind the first n
+take-set : {A : Type 0} (l : List A) (n : ℕ) (x : A) → n < length l → take (suc n) (set l n x) ≡ take n l ++ (x ∷ [])
+take-set [] n x h = absurd (omega arith)
+take-set (y ∷ l) zero x h = refl
+take-set (y ∷ l) (suc n) x h = ap (λ (m : List _). y ∷ m) (take-set l n x (omega arith))
 
 -- a stage in range serves at least one byte a slot
 pub live-rates : (l : List Stage) → All Live l → Rates 1 l
@@ -83,3 +90,24 @@ holds-wait σ w h e = rw (← h .shape) e
 
 pub holds-delay : {a : Curve} {c : Shape} (σ ρ d : ℕ) → Holds a c → d ≡ delay (shapeOf a) σ ρ → d ≡ delay c σ ρ
 holds-delay σ ρ d h e = rw (← h .shape) e
+
+-- one server more, put behind the stages of the record itself
+pub holds-server : {a : Curve} {c : Shape} (R T : ℕ) → Holds a c → a .count < length (a .stages)
+    → Holds (record { offset = a .offset + T; count = a .count + 1; stages = set (a .stages) (a .count) (record { burst = 0; rate = R }) })
+    (joined c (server R T))
+unfolding joined server
+holds-server {a} {c} R T h k =
+    record {
+      shape = rw (← h .shape, add-one, take-set (a .stages) (a .count) (record { burst = 0; rate = R }) k);
+      count = omega (arith, h .count, length-append (c .stages) (record { burst = 0; rate = R } ∷ []));
+      offset = omega (arith, h .offset);
+    }
+
+-- a join leaves as many entries as there were
+pub holds-long : {r : Curve} (a b : Curve) {d : Shape} → Holds b d → a .count + b .count ≤ length (a .stages)
+    → r ≡ held (joined (shapeOf a) (shapeOf b)) (drop (b .count) (spare a)) → length (r .stages) ≡ length (a .stages)
+unfolding held joined
+holds-long {r} a b {d} k m e =
+    let p : length (take (a .count) (a .stages)) ≡ a .count = length-take-le (a .count) (a .stages) (omega arith) in
+    let q : length (take (b .count) (b .stages)) ≡ b .count = ap (λ (s : Shape). length (s .stages)) (k .shape) ∙ sym (k .count) in
+    rw (e, length-append, length-append, p, q, length-drop, length-drop) (omega arith)

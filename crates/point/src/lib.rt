@@ -1,16 +1,28 @@
 // One point of a row's grid over the nesting tree, with whole curves: an array of curve records, child before parent.
+ghost use mathlib.Core.Path.{_≡_};
 ghost use mathlib.Core.List.{_∷_};
 ghost use Rattle.tree.specs.Plan.{plan};
 ghost use Rattle.tree.specs.Fine.{AllFine};
 ghost use Rattle.point.specs.Point.{serversOf, flowsOf, extrasOf, Shaped};
 ghost use Rattle.point.specs.Contract.{Evaluate};
 use curves::Curve;
+use curves::Stage;
 use row::Row;
 
 // What stands at a point: the watched flow's delay, and each group's wait in order.
 pub struct Point {
     pub delay: u64,
     pub waits: [u64; 32],
+}
+
+// The stage of a server.
+fn stage_of(rate: u64) -> Stage
+    ensures { λ r. ⌜ r ≡ record { burst = 0; rate = rate } ⌝ }
+{
+    Stage {
+        burst: 0,
+        rate: rate,
+    }
 }
 
 // The nodes from the last group to the watched flow, each from those behind it. Of the groups behind node k, tops[j] is the outermost
@@ -35,7 +47,10 @@ pub fn evaluate(row: Row, extra: [u64; 32]) -> Point
             let t = tops[j];
             if t == 0 {
                 let s = row.servers[j - 1];
-                c = c.join(Curve::server(s.rate, s.latency));
+                let at = c.count;
+                c.stages[at] = stage_of(s.rate);
+                c.offset = c.offset + s.latency;
+                c.count = at + 1;
                 j = j + 1;
             } else {
                 c = c.join(lefts[t]);

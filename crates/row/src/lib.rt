@@ -3,7 +3,7 @@ ghost use mathlib.Core.Path.{_≡_};
 ghost use mathlib.Core.Bool.{_&&_, false};
 ghost use Prim.Native.Nat.{_+_, _-_, _*_, _^_, _≤_, _<_, max};
 ghost use lib.Dec.{ltb, eqb};
-ghost use lib.ListN.{length, getD};
+ghost use lib.ListN.{length, getD, replicate};
 ghost use Rattle.sheet.specs.Valid.{Valid};
 ghost use Rattle.tandem.specs.OfSheet.{listed};
 ghost use Rattle.tandem.specs.Sums.{any};
@@ -123,12 +123,11 @@ fn place_of(first: usize, last: usize) -> usize
     (first - 1) * 16 + (16 - last)
 }
 
-// The rates, or the bursts, of the cross flows added up for each path.
-fn sums_of(flows: &[u64], n: usize, rates: bool) -> [u64; 256]
-    requires { ⌜ Laid 16 (now flows) n ⌝ }
-    ensures { λ r. ⌜ Summed (alone (now (flows .entry)) n) rates n r ⌝ }
+// The rates, or the bursts, of the cross flows added up for each path, in a lent list of zeros.
+fn add_sums(flows: &[u64], n: usize, rates: bool, sums: &mut [u64])
+    requires { ⌜ Laid 16 (now flows) n × (now sums ≡ replicate 256 0) ⌝ }
+    ensures { λ _. ⌜ Summed (alone (now (flows .entry)) n) rates n (now (sums .exit)) ⌝ }
 {
-    let mut sums = [0u64; 256];
     let mut f: usize = 1;
     while f < n {
         let a = flow_in(flows, f);
@@ -136,7 +135,6 @@ fn sums_of(flows: &[u64], n: usize, rates: bool) -> [u64; 256]
         sums[p] = sums[p] + amount_of(a, rates);
         f = f + 1;
     }
-    sums
 }
 
 // The watched flow, and behind it each path that some cross flow has, in order, as one flow: from each first server on, the last servers from the
@@ -145,8 +143,10 @@ fn groups_of(servers: &[u64], size: usize, flows: &[u64], n: usize, reaches: &[u
     requires { ⌜ Groupable (now servers) size (now flows) n (now reaches) ⌝ }
     ensures { λ r. ⌜ r ≡ groupedFor (tandemIn (now (servers .entry)) size (now (flows .entry)) n) ⌝ }
 {
-    let bursts = sums_of(flows, n, false);
-    let rates = sums_of(flows, n, true);
+    let mut bursts = [0u64; 256];
+    add_sums(flows, n, false, &mut bursts);
+    let mut rates = [0u64; 256];
+    add_sums(flows, n, true, &mut rates);
     let mut groups = [Flow {
         first: 0,
         last: 0,

@@ -5,11 +5,11 @@ use mathlib.Core.Path.{_≡_, refl, sym, ap, subst, _∙_}
 use mathlib.Core.List.{List, _∷_}
 use Prim.Native.Nat.{ℕ, suc, _+_, _-_, _≤_, _<_, _^_}
 use native.Mathlib.Omega.{arith}
-use lib.ListN.{length, getD, set, length-map}
+use lib.ListN.{length, getD, set, length-set, length-map}
 use lib.Seq.{length-take-le, getD-take}
-use Rattle.curves.specs.Curve.{Shape, leastWait, delay}
-use Rattle.curves.specs.Held.{Holds}
-use Rattle.curves.specs.HeldLaws.{holds-in-range, holds-leaving, holds-joined, holds-remainder, holds-wait, holds-delay}
+use Rattle.curves.specs.Curve.{Shape, neutral, leastWait, delay}
+use Rattle.curves.specs.Held.{held, Holds}
+use Rattle.curves.specs.HeldLaws.{holds-in-range, holds-leaving, holds-joined, holds-remainder, holds-wait, holds-delay, holds-server, holds-long}
 use Rattle.tandem.specs.declared.Server.{Server}
 use Rattle.tandem.specs.declared.Flow.{Flow}
 use Rattle.row.specs.declared.Row.{Row}
@@ -20,7 +20,7 @@ use Rattle.tree.specs.Ordered.{Placed}
 use Rattle.tree.specs.NodeLaws.{curveAt, nodeAt, extra-at, fine-at}
 use Rattle.point.specs.Point.{serversOf, flowsOf, extrasOf}
 use Rattle.point.proofs.Walks.{Walking, walk-begins, walk-ends, walk-room, walk-room-over, walk-turn, walk-turn-over}
-use Rattle.point.proofs.Nodes.{topAt, Upto, Group, mark-none, mark-some, upto-none, upto-next, upto-root}
+use Rattle.point.proofs.Nodes.{noCurve, topAt, Upto, Group, mark-none, mark-some, upto-none, upto-next, upto-root}
 use Rattle.point.proofs.evaluate.Statement.{statement}
 use Rattle.point.proofs.evaluate.Tie as tie
 
@@ -107,6 +107,11 @@ module _ (a : tie.At-loop Inv-loop2 μ-loop2 Inv-loop μ-loop) where
   unfolding nodeOf
   soon = subst (λ (g : Flow). leastWait curve (g .burst) + getD (xs start) at 0 < 2 ^ 36) group-is (fine .soon)
 
+  -- the record that holds no server has all its entries
+  none-full : length (a .before .none .result .stages) ≡ 16
+  unfolding held neutral
+  none-full = rw (a .before .none .ensures .is) refl
+
 -- before server j of the path
 module _ (c : tie.In-loop2 Inv-loop2 μ-loop2 Inv-loop μ-loop) where
   abbrev turn : tie.At-loop Inv-loop2 μ-loop2 Inv-loop μ-loop
@@ -143,14 +148,26 @@ module _ (c : tie.Else1 Inv-loop2 μ-loop2 Inv-loop μ-loop) where
       ap (λ (g : Flow). g .last) (sym (getD-take (r .count) (r .groups) (mark (c .before)) noFlow its-number))
       ∙ group (c .before) (c .if1 .left) .marked .last
 
--- the curve of server j
-serves : (c : tie.After-server Inv-loop2 μ-loop2 Inv-loop μ-loop)
-    → Holds (c .server .result) (serverCurve (ss (start (turn (c .before .before .before)))) (j (c .before .before .before)))
-serves c =
-    let i = c .before .before .before in
-    let r = start (turn i) .args .t1 in
-    let h = on-path i in
-    rw (getD-take (r .size) (r .servers) (j i - 1) (record { rate = 0; latency = 0 }) (omega arith)) (c .server .ensures .holds)
+-- server j, which stands alone: there is room for it, and put behind what is joined so far it is joined
+module _ (c : tie.After-s Inv-loop2 μ-loop2 Inv-loop μ-loop) where
+  abbrev way : tie.In-loop2 Inv-loop2 μ-loop2 Inv-loop μ-loop
+  way = c .before .before
+
+  abbrev its-server : Server
+  its-server = getD (start (turn way) .args .t1 .servers) (j way - 1) (record { rate = 0; latency = 0 })
+
+  server-is : getD (ss (start (turn way))) (j way - 1) (record { rate = 0; latency = 0 }) ≡ its-server
+  server-is =
+      let r = start (turn way) .args .t1 in
+      let h = on-path way in
+      getD-take (r .size) (r .servers) (j way - 1) (record { rate = 0; latency = 0 }) (omega arith)
+
+  room : (way .before .loop2 .c .count < 16) × (way .before .loop2 .c .offset + its-server .latency < 2 ^ 63)
+  unfolding nodeOf
+  room =
+      let f = fine (turn way) in
+      subst (λ (s : Server). (way .before .loop2 .c .count < 16) × (way .before .loop2 .c .offset + s .latency < 2 ^ 63)) server-is
+      (walk-room _ _ _ _ _ _ (way .loop2-test .taken) (way .before .loop2 .inv) (lone way (c .before .if1 .taken)) (f .few) (f .near))
 
 -- the walk's end: the whole curve of the path
 ended : (c : tie.After-loop2 Inv-loop2 μ-loop2 Inv-loop μ-loop) → Holds (c .before .loop2 .c) (curve (c .before .before .before))
@@ -170,6 +187,18 @@ module _ (c : tie.After-least-wait Inv-loop2 μ-loop2 Inv-loop μ-loop) where
       let p : 0 < at here = omega (arith, c .before .if2 .left) in
       rw (extra-at (s .t1 .count - 1) (s .t2) (at here) p (omega (arith, inside here)))
       (ap (λ (n : ℕ). n + getD (s .t2) (at here - 1) 0) (holds-wait _ _ (ended (c .before .before)) (c .least-wait .ensures .is)))
+
+-- what a group leaves fits behind what is joined so far
+joins : (c : tie.After-join-arg Inv-loop2 μ-loop2 Inv-loop μ-loop)
+    → let i = c .before .before in
+    let l = getD (turn i .loop .lefts) (mark i) noCurve in
+    (i .before .loop2 .c .count + l .count ≤ 16) × (i .before .loop2 .c .offset + l .offset < 2 ^ 63)
+unfolding nodeOf
+joins c =
+    let i = c .before .before in
+    let f = fine (turn i) in
+    let g = group i (c .before .if1 .left) in
+    walk-room-over _ _ _ _ _ _ (i .loop2-test .taken) (i .before .loop2 .inv) _ (g .left) (g .end) (g .is) (g .marked .holds) (f .few) (f .near)
 
 none-requires : tie.Need-none-requires Inv-loop2 μ-loop2 Inv-loop μ-loop
 none-requires c κs = tt
@@ -196,7 +225,7 @@ loop2-holds c =
     let p = placed a in
     let n = a .before .none in
     subst (λ (g : Flow). Walking (ss s) (begins a) (curve a) (g .last) (n .result) (g .first)) h
-    (walk-begins (ss s) (getD (gs s) (at a) noFlow) _ _ (n .result) (n .ensures .holds) (rw h (p .enters))
+    (walk-begins (ss s) (getD (gs s) (at a) noFlow) _ _ (n .result) (n .ensures .holds) (none-full a) (rw h (p .enters))
     (omega (arith, ap (λ (g : Flow). g .last) h, p .leaves, servers-are s)))
 
 mul-t : tie.Need-mul-t Inv-loop2 μ-loop2 Inv-loop μ-loop
@@ -214,29 +243,37 @@ mul-s c = let h = on-path (c .before) in omega arith
 element-copy-out-s : tie.Need-element-copy-out-s Inv-loop2 μ-loop2 Inv-loop μ-loop
 element-copy-out-s c = let h = on-path (c .before) in omega (arith, servers-full (start (turn (c .before))))
 
-server-requires : tie.Need-server-requires Inv-loop2 μ-loop2 Inv-loop μ-loop
-server-requires c κs = tt
+stage-of-requires : tie.Need-stage-of-requires Inv-loop2 μ-loop2 Inv-loop μ-loop
+stage-of-requires c κs = tt
 
-join-requires : tie.Need-join-requires Inv-loop2 μ-loop2 Inv-loop μ-loop
-unfolding nodeOf
-join-requires c κs =
-    let i = c .before .before .before in
-    let f = fine (turn i) in
-    walk-room _ _ _ _ _ _ (i .loop2-test .taken) (i .before .loop2 .inv) (c .server .result) (lone i (c .before .before .if1 .taken)) (serves c)
-    (f .few) (f .near)
+mul-t29 : tie.Need-mul-t29 Inv-loop2 μ-loop2 Inv-loop μ-loop
+mul-t29 c = omega (arith, room (c .before) .0)
+
+element-set-from-c : tie.Need-element-set-from-c Inv-loop2 μ-loop2 Inv-loop μ-loop
+element-set-from-c c = room (c .before) .0
+
+add-c : tie.Need-add-c Inv-loop2 μ-loop2 Inv-loop μ-loop
+add-c c = omega (arith, room (c .before .before) .1)
+
+add-c-2 : tie.Need-add-c-2 Inv-loop2 μ-loop2 Inv-loop μ-loop
+add-c-2 c = omega (arith, room (c .before .before) .0)
 
 add-j : tie.Need-add-j Inv-loop2 μ-loop2 Inv-loop μ-loop
-add-j c = let h = on-path (c .before .before .before .before) in omega arith
+add-j c = let h = on-path (way (c .before .before)) in omega arith
 
 loop2-less : tie.Need-loop2-less Inv-loop2 μ-loop2 Inv-loop μ-loop
 loop2-less c = omega arith
 
 loop2-again : tie.Need-loop2-again Inv-loop2 μ-loop2 Inv-loop μ-loop
 loop2-again c =
-    let i = c .before .before .before .before in
+    let a = c .before .before in
+    let i = way a in
     let w = i .before .loop2 .inv in
-    walk-turn _ _ _ _ _ _ (i .loop2-test .taken) w (c .join .result) (lone i (c .before .before .before .if1 .taken))
-    (holds-joined (w .holds) (serves (c .before)) (c .join .ensures .holds))
+    let k = i .before .loop2 .c in
+    let s = its-server a in
+    walk-turn _ _ _ _ _ _ (i .loop2-test .taken) w _ (lone i (a .before .if1 .taken))
+    (rw (server-is a, c .before .stage-of .ensures) (holds-server (s .rate) (s .latency) (w .holds) (omega (arith, room a .0, w .full))))
+    (length-set (k .stages) (k .count) (c .before .stage-of .result) ∙ w .full)
 
 mul-join : tie.Need-mul-join Inv-loop2 μ-loop2 Inv-loop μ-loop
 mul-join c = let h = its-number c in omega (arith, start (turn (c .before)) .pre .0 .few)
@@ -247,13 +284,8 @@ array-copy-out-join c =
     let h = its-number c in
     omega (arith, up a .full, start a .pre .0 .few)
 
-join-requires-2 : tie.Need-join-requires-2 Inv-loop2 μ-loop2 Inv-loop μ-loop
-unfolding nodeOf
-join-requires-2 c κs =
-    let i = c .before .before in
-    let f = fine (turn i) in
-    let g = group i (c .before .if1 .left) in
-    walk-room-over _ _ _ _ _ _ (i .loop2-test .taken) (i .before .loop2 .inv) _ (g .left) (g .end) (g .is) (g .marked .holds) (f .few) (f .near)
+join-requires : tie.Need-join-requires Inv-loop2 μ-loop2 Inv-loop μ-loop
+join-requires c κs = joins c
 
 mul-j : tie.Need-mul-j Inv-loop2 μ-loop2 Inv-loop μ-loop
 mul-j c = let h = its-number (c .before .before) in omega (arith, start (turn (c .before .before .before)) .pre .0 .few)
@@ -284,8 +316,9 @@ loop2-again-2 c =
     let g = group i (c .before .before .if1 .left) in
     let w = i .before .loop2 .inv in
     rw (its-end (c .before .before))
-    (walk-turn-over _ _ _ _ _ _ (i .loop2-test .taken) w (g .left) (g .end) (c .join2 .result) (g .is) (g .marked .onward)
-    (holds-joined (w .holds) (g .marked .holds) (c .join2 .ensures .holds)))
+    (walk-turn-over _ _ _ _ _ _ (i .loop2-test .taken) w (g .left) (g .end) (c .join .result) (g .is) (g .marked .onward)
+    (holds-joined (w .holds) (g .marked .holds) (c .join .ensures .holds))
+    (holds-long (i .before .loop2 .c) _ (g .marked .holds) (omega (arith, w .full, joins (c .before) .0)) (c .join .ensures .is) ∙ w .full))
 
 delay-requires : tie.Need-delay-requires Inv-loop2 μ-loop2 Inv-loop μ-loop
 unfolding nodeOf
@@ -407,14 +440,17 @@ evaluate-spec =
     sub-s
     mul-s
     element-copy-out-s
-    server-requires
-    join-requires
+    stage-of-requires
+    mul-t29
+    element-set-from-c
+    add-c
+    add-c-2
     add-j
     loop2-less
     loop2-again
     mul-join
     array-copy-out-join
-    join-requires-2
+    join-requires
     mul-j
     element-copy-out-j
     add-j-2

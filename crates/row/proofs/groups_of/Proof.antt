@@ -1,7 +1,7 @@
 -- `row::groups_of` meets its contract. The invariant (`Listing`): the groups listed so far, and behind them those of the paths still to come, are all
 -- that the row reads. The measure is how many first servers are left, seventeen steps for each, and the last servers left of the first one.
 -- Assumes nothing.
-use mathlib.Core.Path.{_≡_, sym, _∙_}
+use mathlib.Core.Path.{_≡_, refl, sym, _∙_}
 use mathlib.Core.Logic.{⊎-elim}
 use Prim.Native.Nat.{ℕ, _+_, _*_, _-_, _≤_, _<_}
 use native.Mathlib.Omega.{arith}
@@ -42,24 +42,30 @@ furthest s i h =
     let e = reach-is (s .args .servers .now) (s .args .size) (s .args .flows .now) (s .args .n) (s .args .reaches .now) (s .pre .reached) i h in
     (e, omega (arith, e, reach-inside (row s) (listable s .inside) i, row-long s, s .pre .lent .laid .short))
 
-sums-of-requires : tie.Need-sums-of-requires Inv-loop μ-loop
-sums-of-requires c κs = laid-most _ _ _ (c .before .before .before .pre .lent .laid)
+slice-aggregate-add-sums : tie.Need-slice-aggregate-add-sums Inv-loop μ-loop
+slice-aggregate-add-sums c = search needs
 
-sums-of-requires-2 : tie.Need-sums-of-requires-2 Inv-loop μ-loop
-sums-of-requires-2 c κs = laid-most _ _ _ (c .before .before .before .before .pre .lent .laid)
+add-sums-requires : tie.Need-add-sums-requires Inv-loop μ-loop
+add-sums-requires c κs = (laid-most _ _ _ (c .before .before .before .before .pre .lent .laid), refl)
+
+slice-aggregate-add-sums-2 : tie.Need-slice-aggregate-add-sums-2 Inv-loop μ-loop
+slice-aggregate-add-sums-2 c = search needs
+
+add-sums-requires-2 : tie.Need-add-sums-requires-2 Inv-loop μ-loop
+add-sums-requires-2 c κs = (laid-most _ _ _ (c .before .before .before .before .before .before .before .pre .lent .laid), refl)
 
 flow-in-requires : tie.Need-flow-in-requires Inv-loop μ-loop
-flow-in-requires c κs = let r = c .before .before .before .before .before .pre .lent .laid in (omega arith, omega (arith, r .some, r .room))
+flow-in-requires c κs = let r = c .before .before .before .before .before .before .before .before .before .pre .lent .laid in (omega arith, omega (arith, r .some, r .room))
 
 array-set-from-groups : tie.Need-array-set-from-groups Inv-loop μ-loop
 array-set-from-groups c = search needs
 
 shared-slice-read-last : tie.Need-shared-slice-read-last Inv-loop μ-loop
-shared-slice-read-last c = omega (arith, c .before .before .before .before .before .before .before .pre .reached .long)
+shared-slice-read-last c = omega (arith, c .before .before .before .before .before .before .before .before .before .before .before .pre .reached .long)
 
 loop-holds : tie.Need-loop-holds Inv-loop μ-loop
 loop-holds c = let f = c .before in
-    let s = f .before .before .before .before .before .before in (
+    let s = f .before .before .before .before .before .before .before .before .before .before in (
       omega arith,
       omega arith,
       furthest s 1 (omega arith) .1,
@@ -69,7 +75,7 @@ loop-holds c = let f = c .before in
 
 -- the loop's state, and the call's start
 abbrev start : tie.At-loop Inv-loop μ-loop → tie.Start Inv-loop μ-loop
-start l = l .before .before .before .before .before .before .before .before
+start l = l .before .before .before .before .before .before .before .before .before .before .before .before
 
 short : (l : tie.At-loop Inv-loop μ-loop) → start l .args .size ≤ 16
 short l = start l .pre .lent .laid .short
@@ -114,26 +120,26 @@ place c = let w = within (c .before) in rw (c .place-of .ensures) (omega (arith,
 
 -- and its sums are the group's rate and burst
 rated : (c : tie.After-place-of Inv-loop μ-loop) → let l = c .before .before .before in
-    getD (l .before .before .before .sums-of2 .result) (c .place-of .result) 0 ≡ rates (row (start l)) (on (row (start l)) (path (l .loop .first) (l .loop .last)))
+    getD (l .before .before .before .before .add-sums2 .last .1 .1 .1 .0) (c .place-of .result) 0 ≡ rates (row (start l)) (on (row (start l)) (path (l .loop .first) (l .loop .last)))
 rated c =
     let l = c .before .before .before in
     let a = start l .args in
     let w = within (c .before) in
-    rw (c .place-of .ensures) (lent-rates (a .servers .now) (a .size) (a .flows .now) (a .n) _ (l .loop .first) (l .loop .last) (w .0) (w .1) (w .2) (w .3) (l .before .before .before .sums-of2 .ensures))
+    rw (c .place-of .ensures) (lent-rates (a .servers .now) (a .size) (a .flows .now) (a .n) _ (l .loop .first) (l .loop .last) (w .0) (w .1) (w .2) (w .3) (l .before .before .before .before .add-sums2 .ensures))
 
 bursty : (c : tie.After-place-of Inv-loop μ-loop) → let l = c .before .before .before in
-    getD (l .before .before .before .before .sums-of .result) (c .place-of .result) 0 ≡ bursts (row (start l)) (on (row (start l)) (path (l .loop .first) (l .loop .last)))
+    getD (l .before .before .before .before .before .before .before .add-sums .last .1 .1 .1 .0) (c .place-of .result) 0 ≡ bursts (row (start l)) (on (row (start l)) (path (l .loop .first) (l .loop .last)))
 bursty c =
     let l = c .before .before .before in
     let a = start l .args in
     let w = within (c .before) in
-    rw (c .place-of .ensures) (lent-bursts (a .servers .now) (a .size) (a .flows .now) (a .n) _ (l .loop .first) (l .loop .last) (w .0) (w .1) (w .2) (w .3) (l .before .before .before .before .sums-of .ensures))
+    rw (c .place-of .ensures) (lent-bursts (a .servers .now) (a .size) (a .flows .now) (a .n) _ (l .loop .first) (l .loop .last) (w .0) (w .1) (w .2) (w .3) (l .before .before .before .before .before .before .before .add-sums .ensures))
 
 mul-if2 : tie.Need-mul-if2 Inv-loop μ-loop
 mul-if2 c = omega (arith, place c)
 
 array-read-if2 : tie.Need-array-read-if2 Inv-loop μ-loop
-array-read-if2 c = omega (arith, place c, c .before .before .before .before .before .before .sums-of2 .ensures .long)
+array-read-if2 c = omega (arith, place c, c .before .before .before .before .before .before .before .add-sums2 .ensures .long)
 
 -- a path with rates is some flow's
 moved : (c : tie.Then2 Inv-loop μ-loop) → let l = c .before .before .before .before in
@@ -146,17 +152,17 @@ space c =
     let l = c .before .before .before .before in
     room (row (start l)) (listable (start l)) _ _ (l .loop .first) (l .loop .last) (l .loop .inv .3) (within (c .before .before) .2) (moved c)
 
-mul-t28 : tie.Need-mul-t28 Inv-loop μ-loop
-mul-t28 c = omega (arith, place (c .before))
-
-array-read-t31 : tie.Need-array-read-t31 Inv-loop μ-loop
-array-read-t31 c = omega (arith, place (c .before), c .before .before .before .before .before .before .before .before .sums-of .ensures .long)
-
 mul-t32 : tie.Need-mul-t32 Inv-loop μ-loop
 mul-t32 c = omega (arith, place (c .before))
 
 array-read-t35 : tie.Need-array-read-t35 Inv-loop μ-loop
-array-read-t35 c = omega (arith, place (c .before), c .before .before .before .before .before .before .before .sums-of2 .ensures .long)
+array-read-t35 c = omega (arith, place (c .before), c .before .before .before .before .before .before .before .before .before .before .before .add-sums .ensures .long)
+
+mul-t36 : tie.Need-mul-t36 Inv-loop μ-loop
+mul-t36 c = omega (arith, place (c .before))
+
+array-read-t39 : tie.Need-array-read-t39 Inv-loop μ-loop
+array-read-t39 c = omega (arith, place (c .before), c .before .before .before .before .before .before .before .before .add-sums2 .ensures .long)
 
 mul-groups : tie.Need-mul-groups Inv-loop μ-loop
 mul-groups c = omega (arith, space c)
@@ -204,8 +210,10 @@ groups-of-spec =
     (tie.spec
     Inv-loop
     μ-loop
-    sums-of-requires
-    sums-of-requires-2
+    slice-aggregate-add-sums
+    add-sums-requires
+    slice-aggregate-add-sums-2
+    add-sums-requires-2
     flow-in-requires
     array-set-from-groups
     shared-slice-read-last
@@ -218,10 +226,10 @@ groups-of-spec =
     place-of-requires
     mul-if2
     array-read-if2
-    mul-t28
-    array-read-t31
     mul-t32
     array-read-t35
+    mul-t36
+    array-read-t39
     mul-groups
     array-set-from-groups-2
     add-count
