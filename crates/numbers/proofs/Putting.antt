@@ -3,11 +3,11 @@
 use Prim.Native.Nat.{ℕ, zero, suc, _+_, _/_, _%_, _^_, _≤_, _<_}
 use mathlib.Core.Path.{_≡_, refl, sym, ap, _∙_}
 use mathlib.Core.List.{List, [], _∷_}
-use native.Mathlib.Nat.{pow-suc, div-lt-iff-lt-mul}
 use native.Mathlib.Numerals.{add-one}
 use native.Mathlib.Omega.{arith}
 use lib.ListN.{length, set, length-set}
 use lib.Seq.{sets}
+use Rattle.ground.specs.BaseLaws.{below-power}
 use Rattle.numbers.specs.Seven.{groups, encode}
 use Rattle.numbers.specs.SevenLaws.{groups-last, groups-more, groups-some}
 
@@ -32,7 +32,7 @@ next-at first buf at x p rest (suc n) f pl sm lo h =
     let pl′ = pl ∙ ap (λ (l : List ℕ). p + length l) e in
     record {
       left = n;
-      fits = div-lt-iff-lt-mul {k = 128} (omega arith) .1 (rw pow-suc at f);
+      fits = below-power 128 (suc n) rest (omega arith) f;
       place = omega (arith, pl′);
       same = sm ∙ rw (e, add-one);
       long = length-set buf p (rest % 128 + 128) ∙ lo;

@@ -6,7 +6,6 @@ use mathlib.Core.Path.{_≡_, refl, sym, ap, _∙_}
 use mathlib.Core.Logic.{_⊎_, inl, inr, ⊎-elim}
 use mathlib.Core.List.{List, [], _∷_, _++_}
 use mathlib.Core.Bool.{cond, and-false}
-use native.Mathlib.Nat.{pow-suc, one-le-pow, div-lt-iff-lt-mul, le-div-iff-mul-le}
 use native.Mathlib.Numerals.{add-one}
 use native.Mathlib.Omega.{arith}
 use lib.ListN.{length, length-drop, getD, take, drop}
@@ -14,6 +13,8 @@ use lib.Seq.{drop-append-seam, getD-drop, length-take-le, take-take}
 use lib.Dec.{ltb}
 use borrow.Author.Tests.{lt-ltb, le-ltb, ne-eqb, eq-eqb}
 use Rattle.ground.specs.OrderLaws.{lt-or-ge}
+use Rattle.ground.specs.Base.{width}
+use Rattle.ground.specs.BaseLaws.{below-power, width-some, width-few, width-most, width-least}
 use Rattle.numbers.specs.declared.Got.the-variants.{Number}
 use Rattle.numbers.specs.Seven.{Run, ends, long, run, push, scan, judge, numberAt, groups, encode}
 
@@ -25,50 +26,31 @@ groups-last n x h = rw (lt-ltb x 128 h)
 pub groups-more : (n x : ℕ) → 128 ≤ x → groups (suc n) x ≡ (x % 128 + 128) ∷ groups n (x / 128)
 groups-more n x h = rw (le-ltb x 128 h)
 
+-- there are as many of them as digits in base 128
+groups-width : (n x : ℕ) → length (groups n x) ≡ width 128 n x
+groups-width zero x = refl
+groups-width (suc n) x =
+    ⊎-elim (λ h. rw (lt-ltb x 128 h)) (λ h. rw (le-ltb x 128 h) (ap suc (groups-width n (x / 128)))) (lt-or-ge x 128)
+
 pub groups-some : (n x : ℕ) → 0 < length (groups (suc n) x)
-groups-some n x = ⊎-elim (λ h. rw (groups-last n x h) (omega arith)) (λ h. rw (groups-more n x h) (omega arith)) (lt-or-ge x 128)
-
-below-power : (n x : ℕ) → x < 128 ^ suc n → x / 128 < 128 ^ n
-below-power n x h = div-lt-iff-lt-mul {k = 128} (omega arith) .1 (rw pow-suc at h)
-
--- A number below 128^k takes at most k groups (one, for k = 0 too), and one that is not below 128^k takes more than k.
-pub groups-most : (k n x : ℕ) → x < 128 ^ suc k → length (groups n x) ≤ suc k
-groups-most k zero x h = omega arith
-groups-most zero (suc n) x h = let l : x < 128 = omega arith in rw (groups-last n x l) (omega arith)
-groups-most (suc k) (suc n) x h =
-    ⊎-elim (λ l. rw (groups-last n x l) (omega arith)) (λ g. rw (groups-more n x g) (omega (arith, groups-most k n (x / 128) (below-power (suc k) x h))))
-    (lt-or-ge x 128)
-
-pub groups-least : (k n x : ℕ) → k ≤ n → 128 ^ k ≤ x → k < length (groups (suc n) x)
-groups-least zero n x h g = groups-some n x
-groups-least (suc k) zero x h g = absurd (omega arith)
-groups-least (suc k) (suc n) x h g =
-    let p : 128 ^ k * 128 ≤ x = rw pow-suc at g in
-    let big : 128 ≤ x = omega (arith, one-le-pow k 128 (omega arith)) in
-    let d : 128 ^ k ≤ x / 128 = le-div-iff-mul-le {k = 128} (omega arith) .1 p in
-    rw (groups-more (suc n) x big) (omega (arith, groups-least k n (x / 128) (omega arith) d))
+groups-some n x = rw groups-width (width-some 128 n x)
 
 -- The width of a number: k + 1 bytes from 128^k (from 0, for k = 0) to below 128^(k + 1).
 pub encode-most : (k x : ℕ) → x < 128 ^ suc k → length (encode x) ≤ suc k
 unfolding encode
-encode-most k x h = groups-most k 5 x h
+encode-most k x h = rw groups-width (width-most 128 k 5 x (omega arith) h)
 
 pub encode-least : (k x : ℕ) → k ≤ 4 → 128 ^ k ≤ x → k < length (encode x)
 unfolding encode
-encode-least k x h g = groups-least k 4 x h g
+encode-least k x h g = rw groups-width (width-least 128 k 4 x (omega arith) h g)
 
 pub encode-some : (x : ℕ) → 0 < length (encode x)
 unfolding encode
 encode-some x = groups-some 4 x
 
-groups-few : (n x : ℕ) → length (groups n x) ≤ n
-groups-few zero x = omega arith
-groups-few (suc n) x =
-    ⊎-elim (λ l. rw (groups-last n x l) (omega arith)) (λ g. rw (groups-more n x g) (omega (arith, groups-few n (x / 128)))) (lt-or-ge x 128)
-
 pub encode-few : (x : ℕ) → length (encode x) ≤ 5
 unfolding encode
-encode-few x = groups-few 5 x
+encode-few x = rw groups-width (width-few 128 5 x)
 
 -- "groups of seven bits, lowest first; a set top bit says that another group follows": a number below 128 is one group; any other has its lowest
 -- seven bits in front, with the top bit set, and behind them the bytes of what is left of it.
@@ -81,11 +63,11 @@ groups-enough : (n x : ℕ) → x < 128 ^ suc n → groups (suc n) x ≡ groups 
 groups-enough zero x h = let l : x < 128 = omega arith in rw (lt-ltb x 128 l)
 groups-enough (suc n) x h =
     ⊎-elim (λ l. rw (lt-ltb x 128 l))
-    (λ g. rw (groups-more (suc n) x g, groups-more (suc (suc n)) x g, groups-enough n (x / 128) (below-power (suc n) x h))) (lt-or-ge x 128)
+    (λ g. rw (groups-more (suc n) x g, groups-more (suc (suc n)) x g, groups-enough n (x / 128) (below-power 128 (suc n) x (omega arith) h))) (lt-or-ge x 128)
 
 pub lowest-first : (x : ℕ) → 128 ≤ x → x < 4294967296 → encode x ≡ (x % 128 + 128) ∷ encode (x / 128)
 unfolding encode
-lowest-first x g h = groups-more 4 x g ∙ ap (λ (l : List ℕ). (x % 128 + 128) ∷ l) (groups-enough 3 (x / 128) (below-power 4 x (omega arith)))
+lowest-first x g h = groups-more 4 x g ∙ ap (λ (l : List ℕ). (x % 128 + 128) ∷ l) (groups-enough 3 (x / 128) (below-power 128 4 x (omega arith) (omega arith)))
 
 -- What was written is read back.
 
@@ -106,7 +88,8 @@ scan-groups (suc n) x t h =
     (λ g.
     let q : x % 128 + 128 - 128 + 128 * (x / 128) ≡ x = omega arith in
     let u : 128 ≤ x % 128 + 128 = omega arith in
-    rw (le-ltb x 128 g, le-ltb (x % 128 + 128) 128 u, scan-groups n (x / 128) t (below-power (suc n) x h), q, add-one))
+    let b : x / 128 < 128 ^ suc n = below-power 128 (suc n) x (omega arith) h in
+    rw (le-ltb x 128 g, le-ltb (x % 128 + 128) 128 u, scan-groups n (x / 128) t b, q, add-one))
     (lt-or-ge x 128)
 
 judge-fine : (at v k z : ℕ) → v < 4294967296 → (k ≡ 1) ⊎ (0 < z) → judge at (run v k z) ≡ Number v (at + k)

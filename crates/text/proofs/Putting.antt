@@ -8,8 +8,9 @@ use native.Mathlib.Numerals.{add-one}
 use native.Mathlib.Omega.{arith}
 use lib.ListN.{length, getD, set, drop, length-set, length-append, drop-of-length-le}
 use lib.Seq.{sets, set-comm, drop-cons}
+use Rattle.ground.specs.BaseLaws.{below-power}
 use Rattle.text.specs.Decimal.{digits, decimal}
-use Rattle.text.specs.DecimalLaws.{digits-last, digits-more, digits-some, below-power}
+use Rattle.text.specs.DecimalLaws.{digits-last, digits-more, digits-some}
 
 -- a store behind others can come before them
 pub sets-last : (l : List ℕ) (i : ℕ) (vs : List ℕ) (v : ℕ) → sets l i (vs ++ (v ∷ [])) ≡ sets (set l (i + length vs) v) i vs
@@ -36,7 +37,7 @@ count-at : (x n rest k : ℕ) → rest < 10 ^ suc k → length (decimal x) + 1 �
     → Counting x (n + 1) (rest / 10)
 count-at x n rest zero f s m h = absurd (omega arith)
 count-at x n rest (suc k) f s m h =
-    record { left = k; fits = below-power (suc k) rest f; same = omega (arith, length-more (suc k) rest h); few = omega arith }
+    record { left = k; fits = below-power 10 (suc k) rest (omega arith) f; same = omega (arith, length-more (suc k) rest h); few = omega arith }
 
 module _ {x n rest : ℕ} where
   pub count : Counting x n rest → 10 ≤ rest → Counting x (n + 1) (rest / 10)
@@ -67,7 +68,7 @@ next-at first buf at x p rest (suc k) f pl sm lo ins h =
     let pl′ : p - 1 ≡ at + length (digits (suc k) (rest / 10)) = omega (arith, length-more (suc k) rest h) in
     record {
       left = k;
-      fits = below-power (suc k) rest f;
+      fits = below-power 10 (suc k) rest (omega arith) f;
       place = pl′;
       same = sm ∙ rw (digits-more (suc k) rest h, sets-last, ← pl′);
       long = length-set buf (p - 1) (48 + rest % 10) ∙ lo;

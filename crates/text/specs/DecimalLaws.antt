@@ -4,11 +4,13 @@ use Prim.Native.Nat.{ℕ, zero, suc, _+_, _-_, _*_, _/_, _%_, _^_, _≤_, _<_}
 use mathlib.Core.Path.{_≡_, refl}
 use mathlib.Core.Logic.{⊎-elim}
 use mathlib.Core.List.{List, [], _∷_, _++_}
-use native.Mathlib.Nat.{pow-suc, div-lt-iff-lt-mul}
+use native.Mathlib.Numerals.{add-one}
 use native.Mathlib.Omega.{arith}
 use lib.ListN.{length, length-append}
 use borrow.Author.Tests.{lt-ltb, le-ltb}
 use Rattle.ground.specs.OrderLaws.{lt-or-ge}
+use Rattle.ground.specs.Base.{width}
+use Rattle.ground.specs.BaseLaws.{below-power, width-some, width-few}
 use Rattle.text.specs.Decimal.{digits, decimal, valueAfter, valueOf}
 
 -- The digits of a number, one by one.
@@ -19,29 +21,24 @@ digits-last n x h = rw (lt-ltb x 10 h)
 pub digits-more : (n x : ℕ) → 10 ≤ x → digits (suc n) x ≡ digits n (x / 10) ++ ((48 + x % 10) ∷ [])
 digits-more n x h = rw (le-ltb x 10 h)
 
-pub digits-some : (n x : ℕ) → 0 < length (digits (suc n) x)
-digits-some n x =
-    ⊎-elim (λ h. rw (digits-last n x h) (omega arith))
-    (λ h. rw (digits-more n x h) (omega (arith, length-append (digits n (x / 10)) ((48 + x % 10) ∷ []))))
+-- how many there are
+digits-width : (n x : ℕ) → length (digits n x) ≡ width 10 n x
+digits-width zero x = refl
+digits-width (suc n) x =
+    ⊎-elim (λ h. rw (lt-ltb x 10 h))
+    (λ h. rw (le-ltb x 10 h, length-append (digits n (x / 10)) ((48 + x % 10) ∷ []), digits-width n (x / 10), add-one))
     (lt-or-ge x 10)
+
+pub digits-some : (n x : ℕ) → 0 < length (digits (suc n) x)
+digits-some n x = rw digits-width (width-some 10 n x)
 
 pub decimal-some : (x : ℕ) → 0 < length (decimal x)
 unfolding decimal
 decimal-some x = digits-some 19 x
 
-digits-few : (n x : ℕ) → length (digits n x) ≤ n
-digits-few zero x = omega arith
-digits-few (suc n) x =
-    ⊎-elim (λ h. rw (digits-last n x h) (omega arith))
-    (λ h. rw (digits-more n x h) (omega (arith, length-append (digits n (x / 10)) ((48 + x % 10) ∷ []), digits-few n (x / 10))))
-    (lt-or-ge x 10)
-
 pub decimal-few : (x : ℕ) → length (decimal x) ≤ 20
 unfolding decimal
-decimal-few x = digits-few 20 x
-
-pub below-power : (n x : ℕ) → x < 10 ^ suc n → x / 10 < 10 ^ n
-below-power n x h = div-lt-iff-lt-mul {k = 10} (omega arith) .1 (rw pow-suc at h)
+decimal-few x = rw digits-width (width-few 10 20 x)
 
 -- Each is a digit.
 
@@ -75,7 +72,7 @@ digits-value : (n x : ℕ) → x < 10 ^ suc n → valueOf (digits (suc n) x) ≡
 digits-value zero x h = let l : x < 10 = omega arith in rw (digits-last 0 x l) (omega arith)
 digits-value (suc n) x h =
     ⊎-elim (λ l. rw (digits-last (suc n) x l) (omega arith))
-    (λ g. rw (digits-more (suc n) x g, value-append, digits-value n (x / 10) (below-power (suc n) x h)) (omega arith))
+    (λ g. rw (digits-more (suc n) x g, value-append, digits-value n (x / 10) (below-power 10 (suc n) x (omega arith) h)) (omega arith))
     (lt-or-ge x 10)
 
 pub decimal-value : (x : ℕ) → x < 18446744073709551616 → valueOf (decimal x) ≡ x
