@@ -12,14 +12,14 @@ use Rattle.fields.specs.declared.Why.{Why}
 use Rattle.fields.specs.declared.Why.the-variants.{Ends, Left}
 use Rattle.fields.specs.Refusal.{refusal}
 use Rattle.fields.specs.Rule.{fieldAt, fieldRule}
-use Rattle.naming.specs.Names.{nameOf, ownerAt, rangeOf}
-use Rattle.naming.specs.Contract.{seen}
+use Rattle.naming.specs.declared.Extent.{Extent}
+use Rattle.naming.specs.Names.{extentIn, seen, nameAt, rangeOf}
 use Rattle.text.specs.Lines.{field}
 use Rattle.scribe.specs.declared.Scribed.{Scribed}
 use Rattle.scribe.specs.declared.Scribed.the-variants as gave
 use Rattle.scribe.specs.declared.Slip.{Slip}
 use Rattle.scribe.specs.Text.{Said, these, wrong, givesText, textOf}
-use Rattle.composing.specs.Composed.{lineWord, placeWord, numberWord, openWord, missingWord, leftWord, lineIn, lineOf, placeText, saidIn, fieldName, outsideText, outsideLine, faultEnd, faultText, complaint, slipWord, slipLine}
+use Rattle.composing.specs.Composed.{lineWord, placeWord, numberWord, openWord, missingWord, leftWord, lineIn, lineOf, placeText, ruleIn, outsideText, outsideLine, faultEnd, faultText, complaint, slipWord, slipLine}
 
 -- no line where all numbers have room
 line-none : (s : Said) (n : ℕ) → givesText s ≡ gave.Numbers n → 0 ≡ lineIn s
@@ -48,24 +48,14 @@ pub place-alone : (line d : ℕ) → line ≤ 0 → placeText line d ≡ field n
 unfolding placeText
 place-alone line d h = rw (le-ltb 0 line h)
 
--- the field at a place, from the numbers that say where the fields stand
-module _ (xs : List ℕ) (d : ℕ) {f e n m : ℕ} (field-is : f ≡ fieldAt d (seen e n m))
-    (here : (e ≡ saidIn xs .edition) × (n ≡ saidIn xs .servers) × (m ≡ saidIn xs .flows)) where
-  pub field-said : f ≡ fieldAt d (saidIn xs)
-  field-said = field-is ∙ rw (here .0, here .1, here .2)
+-- the rule of the field at a place
+pub rule-said : (xs : List ℕ) (d : ℕ) {r : Rule} {e : Extent} {f prev before : ℕ} → r ≡ fieldRule Writer (e .servers) prev f → f ≡ fieldAt d (seen e)
+    → e ≡ extentIn xs → prev ≡ getD xs before 0 → before ≡ d - 1 → r ≡ ruleIn xs d
+rule-said xs d {r} {e} {f} {prev} {before} a b c p q =
+    a ∙ ap (fieldRule Writer (e .servers) prev) b ∙ ap (λ (k : Extent). fieldRule Writer (k .servers) prev (fieldAt d (seen k))) c
+    ∙ ap (λ (k : ℕ). fieldRule Writer (getD xs 1 0) k (fieldAt d (seen (extentIn xs)))) (p ∙ ap (λ (k : ℕ). getD xs k 0) q)
 
-  pub name-said : {o : ℕ} → o ≡ ownerAt d (seen e n m) → nameOf f o ≡ fieldName xs d
-  unfolding fieldName
-  name-said {o} b = rw (field-said, b, here .0, here .1, here .2)
-
-pub rule-said : (xs : List ℕ) (d : ℕ) {r : Rule} {f n prev before : ℕ} → r ≡ fieldRule Writer n prev f → f ≡ fieldAt d (saidIn xs) → n ≡ saidIn xs .servers
-    → prev ≡ getD xs before 0 → before ≡ d - 1 → r ≡ fieldRule Writer (getD xs 1 0) (getD xs (d - 1) 0) (fieldAt d (saidIn xs))
-rule-said xs d {r} {f} {n} {prev} {before} a b c p q =
-    let e : prev ≡ getD xs (d - 1) 0 = p ∙ ap (λ (k : ℕ). getD xs k 0) q in
-    a ∙ ap (fieldRule Writer n prev) b ∙ ap (λ (k : ℕ). fieldRule Writer k prev (fieldAt d (saidIn xs))) c
-    ∙ ap (λ (k : ℕ). fieldRule Writer (getD xs 1 0) k (fieldAt d (saidIn xs))) e
-
-pub range-said : (xs : List ℕ) (d : ℕ) (rule : Rule) → rule ≡ fieldRule Writer (getD xs 1 0) (getD xs (d - 1) 0) (fieldAt d (saidIn xs))
+pub range-said : (xs : List ℕ) (d : ℕ) (rule : Rule) → rule ≡ ruleIn xs d
     → rangeOf rule ≡ outsideText xs d
 unfolding outsideText
 range-said xs d rule e = ap rangeOf e
@@ -84,11 +74,11 @@ module _ (xs : List ℕ) (number d k : ℕ) where
   unfolding faultText
   fault-left r e = rw (eq-eqb number (refusal Left) (e ∙ r))
 
-  pub fault-named : k ≡ refusal Left → (number ≡ k → ⊥) → faultText xs number d ≡ openWord ++ (fieldName xs d ++ faultEnd xs number d)
+  pub fault-named : k ≡ refusal Left → (number ≡ k → ⊥) → faultText xs number d ≡ openWord ++ (nameAt d (extentIn xs) ++ faultEnd xs number d)
   unfolding faultText
   fault-named r h = rw (ne-eqb number (refusal Left) (λ e. h (e ∙ sym r)))
 
-  pub named-length : k ≡ refusal Left → (number ≡ k → ⊥) → length (faultText xs number d) ≡ 2 + (length (fieldName xs d) + length (faultEnd xs number d))
+  pub named-length : k ≡ refusal Left → (number ≡ k → ⊥) → length (faultText xs number d) ≡ 2 + (length (nameAt d (extentIn xs)) + length (faultEnd xs number d))
   named-length r h = ap length (fault-named r h) ∙ rw (length-append, length-append)
 
 -- the whole complaint, and the line of a slip, in their parts

@@ -7,10 +7,11 @@ use mathlib.Core.List.{List, [], _∷_, _++_}
 use lib.Dec.{ltb, eqb}
 use lib.ListN.{length, getD}
 use Rattle.fields.specs.declared.User.the-variants.{Writer}
+use Rattle.fields.specs.declared.Rule.{Rule}
 use Rattle.fields.specs.declared.Why.{Why}
 use Rattle.fields.specs.declared.Why.the-variants.{Ends, Left}
 use Rattle.fields.specs.Refusal.{refusal}
-use Rattle.fields.specs.Rule.{Seen, serverAt, fieldAt, fieldRule}
+use Rattle.fields.specs.Rule.{fieldAt, fieldRule}
 use Rattle.sheet.specs.Sheet.{Found, fail, these, listOf, encodeAll}
 use Rattle.text.specs.declared.Printed.{Printed}
 use Rattle.text.specs.declared.Printed.the-variants.{Answer, Refusal}
@@ -18,8 +19,7 @@ use Rattle.text.specs.Lines.{lineEnd, field}
 use Rattle.scribe.specs.declared.Slip.{Slip}
 use Rattle.scribe.specs.declared.Slip.the-variants.{Word, Large, Many}
 use Rattle.scribe.specs.Text as scribe
-use Rattle.naming.specs.Names.{nameOf, ownerAt, rangeOf}
-use Rattle.naming.specs.Contract.{seen}
+use Rattle.naming.specs.Names.{extentIn, seen, nameAt, rangeOf}
 
 -- "line "
 abbrev pub lineWord : List ℕ
@@ -90,16 +90,13 @@ lineOf text d = lineIn (scribe.textOf d text)
 unfoldable pub placeText : ℕ → ℕ → List ℕ
 placeText line d = cond (ltb 0 line) (field lineWord line ++ field placeWord d) (field numberWord d)
 
--- the edition, N and the number of flows that a list of numbers says, as far as it goes
-abbrev pub saidIn : List ℕ → Seen
-saidIn xs = seen (getD xs 0 0) (getD xs 1 0) (getD xs (serverAt (getD xs 0 0) (getD xs 1 0) 0) 0)
+-- the rule of the field at place d of a list, as the writer has it
+abbrev pub ruleIn : List ℕ → ℕ → Rule
+ruleIn xs d = fieldRule Writer (getD xs 1 0) (getD xs (d - 1) 0) (fieldAt d (seen (extentIn xs)))
 
--- the name of the field at place d; and that the number there is outside the range of its rule: `70000, outside 0..65535`
-unfoldable pub fieldName : List ℕ → ℕ → List ℕ
-fieldName xs d = nameOf (fieldAt d (saidIn xs)) (ownerAt d (saidIn xs))
-
+-- that the number at place d is outside the range of its rule: `70000, outside 0..65535`
 unfoldable pub outsideText : List ℕ → ℕ → List ℕ
-outsideText xs d = rangeOf (fieldRule Writer (getD xs 1 0) (getD xs (d - 1) 0) (fieldAt d (saidIn xs)))
+outsideText xs d = rangeOf (ruleIn xs d)
 
 unfoldable pub outsideLine : List ℕ → ℕ → List ℕ
 outsideLine xs d = field isWord (getD xs d 0) ++ (outsideText xs d ++ lineEnd)
@@ -109,7 +106,7 @@ unfoldable pub faultEnd : List ℕ → ℕ → ℕ → List ℕ
 faultEnd xs number d = cond (eqb number (refusal Ends)) missingWord (outsideLine xs d)
 
 unfoldable pub faultText : List ℕ → ℕ → ℕ → List ℕ
-faultText xs number d = cond (eqb number (refusal Left)) leftWord (openWord ++ (fieldName xs d ++ faultEnd xs number d))
+faultText xs number d = cond (eqb number (refusal Left)) leftWord (openWord ++ (nameAt d (extentIn xs) ++ faultEnd xs number d))
 
 unfoldable pub complaint : List ℕ → List ℕ → Why → ℕ → List ℕ
 complaint text xs w d = placeText (lineOf text d) d ++ faultText xs (refusal w) d

@@ -1,7 +1,7 @@
 -- How long what is printed is; that only a text that is too long, that slips or whose list is no sheet's is complained of; and THE LAW that
 -- `compose` makes of what `show` prints the very sheet that was shown.
 -- Assumes nothing.
-use Prim.Native.Nat.{ℕ, _+_, _-_, _≤_}
+use Prim.Native.Nat.{ℕ, _+_, _≤_}
 use mathlib.Core.Path.{_≡_, refl, ap}
 use mathlib.Core.Bool.{Bool, true, false, cond}
 use mathlib.Core.List.{List, _++_}
@@ -10,11 +10,9 @@ use lib.Dec.{ltb, eqb}
 use lib.ListN.{length, getD, length-append}
 use borrow.Author.Tests.{le-ltb}
 use Rattle.numbers.specs.SevenLaws.{Bytes}
-use Rattle.fields.specs.declared.User.the-variants.{Writer}
 use Rattle.fields.specs.declared.Why.{Why}
 use Rattle.fields.specs.declared.Why.the-variants.{Ends, Left}
 use Rattle.fields.specs.Refusal.{refusal}
-use Rattle.fields.specs.Rule.{fieldAt, fieldRule}
 use Rattle.sheet.specs.Sheet.{Found, fail, these, sheetOf, listOf, encodeAll}
 use Rattle.sheet.specs.ValidLaws.{valid-length, read-valid, listed-valid}
 use Rattle.sheet.specs.WalkLaws.{list-whole}
@@ -27,14 +25,14 @@ use Rattle.text.specs.LinesLaws.{field-short}
 use Rattle.scribe.specs.declared.Slip.{Slip}
 use Rattle.scribe.specs.declared.Slip.the-variants.{Word, Large, Many}
 use Rattle.scribe.specs.Text as scribe
-use Rattle.naming.specs.Names.{ownerAt}
-use Rattle.naming.specs.NamesLaws.{name-short, range-short}
+use Rattle.naming.specs.Names.{extentIn, nameAt}
+use Rattle.naming.specs.NamesLaws.{name-at-short, range-short}
 use Rattle.showing.specs.Shown.{shown}
 use Rattle.showing.specs.ShownLaws.{shown-short}
 use Rattle.showing.specs.ReadLaws.{shown-read}
 use Rattle.composing.specs.Contract.{Compose}
 use Rattle.composing.specs.Composed.{lineWord, placeWord, numberWord, openWord, isWord, missingWord, leftWord, slipWord, slipLine, lineOf}
-use Rattle.composing.specs.Composed.{placeText, longText, saidIn, fieldName, outsideText, outsideLine, faultEnd, faultText, complaint, Composed}
+use Rattle.composing.specs.Composed.{placeText, longText, ruleIn, outsideText, outsideLine, faultEnd, faultText, complaint, Composed}
 use Rattle.composing.specs.Composed.{made, wrong, byWriter, byText, composed, composedBytes, composedPrinted, composePage}
 
 cond-short : (t : Bool) (a b : List ℕ) (n : ℕ) → length a ≤ n → length b ≤ n → length (cond t a b) ≤ n
@@ -57,13 +55,9 @@ place-short line d =
     (omega (arith, length-append (field lineWord line) (field placeWord d), field-short lineWord line, field-short placeWord d))
     (omega (arith, field-short numberWord d))
 
-name-short-at : (xs : List ℕ) (d : ℕ) → length (fieldName xs d) ≤ 41
-unfolding fieldName
-name-short-at xs d = name-short (fieldAt d (saidIn xs)) (ownerAt d (saidIn xs))
-
 outside-short : (xs : List ℕ) (d : ℕ) → length (outsideText xs d) ≤ 61
 unfolding outsideText
-outside-short xs d = range-short (fieldRule Writer (getD xs 1 0) (getD xs (d - 1) 0) (fieldAt d (saidIn xs)))
+outside-short xs d = range-short (ruleIn xs d)
 
 pub outside-length : (xs : List ℕ) (d : ℕ) → length (outsideLine xs d) ≡ length (field isWord (getD xs d 0)) + (length (outsideText xs d) + 1)
 unfolding outsideLine
@@ -78,12 +72,12 @@ end-short xs number d =
 pub fault-short : (xs : List ℕ) (number d : ℕ) → length (faultText xs number d) ≤ 130
 unfolding faultText
 fault-short xs number d =
-    cond-short (eqb number (refusal Left)) leftWord (openWord ++ (fieldName xs d ++ faultEnd xs number d)) 130 (omega arith)
+    cond-short (eqb number (refusal Left)) leftWord (openWord ++ (nameAt d (extentIn xs) ++ faultEnd xs number d)) 130 (omega arith)
     (omega (
       arith,
-      length-append openWord (fieldName xs d ++ faultEnd xs number d),
-      length-append (fieldName xs d) (faultEnd xs number d),
-      name-short-at xs d,
+      length-append openWord (nameAt d (extentIn xs) ++ faultEnd xs number d),
+      length-append (nameAt d (extentIn xs)) (faultEnd xs number d),
+      name-at-short d (extentIn xs),
       end-short xs number d,
     ))
 

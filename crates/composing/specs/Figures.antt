@@ -2,20 +2,23 @@
 -- Assumes nothing.
 use Prim.Native.Nat.{ℕ, zero, suc}
 use mathlib.Core.Path.{_≡_, refl}
+use mathlib.Core.Logic.{inl}
 use native.Mathlib.Omega.{arith}
 use mathlib.Core.List.{List, [], _∷_, _++_}
 use Rattle.numbers.specs.Seven.{numberAt, encode}
 use Rattle.numbers.specs.SevenLaws.{Bytes}
+use Rattle.fields.specs.declared.Why.the-variants.{Outside}
 use Rattle.fields.specs.Rule.{ruleAt, fieldAt, seenAfter}
 use Rattle.fields.specs.Step.{stepOn}
 use Rattle.sheet.specs.Sheet.{sheetOf, listOf}
 use Rattle.text.specs.Decimal.{decimal}
 use Rattle.text.specs.Lines.{field}
 use Rattle.scribe.specs.Text.{isBlank, isDigit, outsideBy, longerBy, insideBy, turnOf, lineAfter, textOf}
-use Rattle.naming.specs.Names.{nameOf, ownerAt, endsOf, rangeOf}
+use Rattle.naming.specs.Names.{nameOf, ownerAt, nameAt, endsOf, rangeOf}
 use Rattle.showing.specs.Shown.{shown}
-use Rattle.composing.specs.Composed.{lineOf, placeText, fieldName, outsideText, outsideLine, faultEnd, faultText, complaint, made, wrong, composed}
+use Rattle.composing.specs.Composed.{lineOf, placeText, outsideText, outsideLine, faultEnd, faultText, complaint, made, wrong, composed}
 use Rattle.composing.specs.ComposedLaws.{shown-composed}
+use Rattle.composing.specs.ToldLaws.{Told, told}
 
 -- P7: R 10, T 0; cross 10, 6; watched 12, 4; g 4: its numbers are its bytes
 abbrev pub P7 : List ℕ
@@ -55,5 +58,10 @@ complained =
 
 pub second-wrong : composed second ≡ wrong complained
 unfolding composed textOf turnOf outsideBy insideBy longerBy isBlank isDigit lineAfter listOf stepOn ruleAt fieldAt seenAfter complaint lineOf placeText
-    faultText faultEnd outsideLine outsideText fieldName nameOf ownerAt rangeOf endsOf field decimal
+    faultText faultEnd outsideLine outsideText nameAt nameOf ownerAt rangeOf endsOf field decimal
 second-wrong = refl
+
+-- it meets the hypotheses of the law of what is told
+pub second-told : Told second (2 ∷ []) Outside 0
+unfolding listOf stepOn ruleAt fieldAt seenAfter
+second-told = told second (2 ∷ []) Outside 0 (inl refl) refl

@@ -3,10 +3,8 @@ ghost use mathlib.Core.Path.{_≡_};
 ghost use Prim.Native.Nat.{_+_, _-_, _≤_};
 ghost use lib.ListN.{length, getD};
 ghost use lib.Seq.{sets};
-ghost use Rattle.fields.specs.declared.User.the-variants.{Writer};
-ghost use Rattle.fields.specs.Rule.{fieldAt, fieldRule};
 ghost use Rattle.text.specs.Contract.{Put};
-ghost use Rattle.composing.specs.Composed.{slipLine, lineOf, placeText, saidIn, fieldName, outsideLine, faultEnd, faultText, complaint, composed, composedBytes, composedPrinted, composePage};
+ghost use Rattle.composing.specs.Composed.{slipLine, lineOf, placeText, ruleIn, outsideLine, faultEnd, faultText, complaint, composed, composedBytes, composedPrinted, composePage};
 ghost use Rattle.composing.specs.Inside.{byList};
 ghost use Rattle.composing.specs.Contract.{Compose};
 use fields::Outcome;
@@ -22,33 +20,6 @@ fn wide(x: u32) -> u64
     ensures { λ r. ⌜ r ≡ x ⌝ }
 {
     x as u64
-}
-
-// The number at a place of a list, and 0 behind its end.
-fn number_at(numbers: &[u32], i: usize) -> u32
-    ensures { λ r. ⌜ r ≡ getD (now (numbers .entry)) i 0 ⌝ }
-{
-    if i < numbers.len() { numbers[i] } else { 0 }
-}
-
-// What the places of a list depend on, as far as it goes: its edition, its number of servers and its number of cross flows.
-struct Extent {
-    edition: u32,
-    servers: u32,
-    flows: u32,
-}
-
-// The extent of a list of numbers.
-fn extent_of(numbers: &[u32]) -> Extent
-    ensures { λ r. ⌜ (r .edition ≡ saidIn (now (numbers .entry)) .edition) × (r .servers ≡ saidIn (now (numbers .entry)) .servers) × (r .flows ≡ saidIn (now (numbers .entry)) .flows) ⌝ }
-{
-    let n = number_at(numbers, 1);
-    let count = 2 + 2 * (n as usize);
-    Extent {
-        edition: number_at(numbers, 0),
-        servers: n,
-        flows: number_at(numbers, count),
-    }
 }
 
 // The line of the number at a place of a text: that of the first number for which a list of so many has no room. It is 0 where there is no such number.
@@ -85,23 +56,12 @@ fn place_before(place: usize) -> usize
 // The rule of the field at a place of a list, as the writer has it.
 fn rule_at(numbers: &[u32], place: usize) -> Rule
     requires { ⌜ place ≤ 1000 ⌝ }
-    ensures { λ r. ⌜ r ≡ fieldRule Writer (getD (now (numbers .entry)) 1 0) (getD (now (numbers .entry)) (place - 1) 0) (fieldAt place (saidIn (now (numbers .entry)))) ⌝ }
+    ensures { λ r. ⌜ r ≡ ruleIn (now (numbers .entry)) place ⌝ }
 {
-    let e = extent_of(numbers);
-    let field = naming::field_at(place, e.edition, e.servers, e.flows);
-    let prev = number_at(numbers, place_before(place));
+    let e = naming::extent_of(numbers);
+    let field = naming::field_at(place, e);
+    let prev = naming::number_at(numbers, place_before(place));
     fields::field_rule(User::Writer, field, e.servers, prev)
-}
-
-// Writes the name of the field at a place of a list.
-fn put_field_name(numbers: &[u32], place: usize, page: &mut [u8], at: usize) -> usize
-    requires { ⌜ (place ≤ 1000) × (at + length (fieldName (now numbers) place) ≤ length (now page)) ⌝ }
-    ensures { λ r. ⌜ Put (fieldName (now (numbers .entry)) place) (now (page .entry)) at r (now (page .exit)) ⌝ }
-{
-    let e = extent_of(numbers);
-    let field = naming::field_at(place, e.edition, e.servers, e.flows);
-    let owner = naming::owner_at(place, e.edition, e.servers, e.flows);
-    naming::put_name(field, owner, page, at)
 }
 
 // Writes that the number at a place is outside its range.
@@ -109,7 +69,7 @@ fn put_outside(numbers: &[u32], place: usize, page: &mut [u8], at: usize) -> usi
     requires { ⌜ (place ≤ 1000) × (at + length (outsideLine (now numbers) place) ≤ length (now page)) ⌝ }
     ensures { λ r. ⌜ Put (outsideLine (now (numbers .entry)) place) (now (page .entry)) at r (now (page .exit)) ⌝ }
 {
-    let x = wide(number_at(numbers, place));
+    let x = wide(naming::number_at(numbers, place));
     let behind = text::put_field(b") is ", x, page, at);
     let range = naming::put_range(rule_at(numbers, place), page, behind);
     text::put_word(b"\n", page, range)
@@ -135,7 +95,7 @@ fn put_fault(numbers: &[u32], number: u32, place: usize, page: &mut [u8], at: us
         return text::put_word(b" is left over\n", page, at);
     }
     let open = text::put_word(b" (", page, at);
-    let name = put_field_name(numbers, place, page, open);
+    let name = naming::put_name_at(place, naming::extent_of(numbers), page, open);
     put_end(numbers, number, place, page, name)
 }
 

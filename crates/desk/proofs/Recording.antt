@@ -11,7 +11,8 @@ use lib.Seq.{take-suc, take-suc-set, sets, sets-eq}
 use borrow.Author.Tests.{lt-ltb, le-ltb}
 use Rattle.fields.specs.declared.Outcome.the-variants.{Done, Refused}
 use Rattle.fields.specs.declared.Why.the-variants.{Short}
-use Rattle.sheet.specs.Sheet.{encodeAll, gives, holds}
+use Rattle.ground.specs.Buffer.{holds}
+use Rattle.sheet.specs.Sheet.{encodeAll, gives}
 use Rattle.analysis.specs.declared.Analysed.{Analysed}
 
 pub record Recording (a : Analysed) (numbers : List ℕ) (i : ℕ) : Type 0 where

@@ -5,7 +5,8 @@ use mathlib.Core.List.{List}
 use lib.ListN.{length}
 use Rattle.fields.specs.declared.Outcome.{Outcome}
 use Rattle.fields.specs.declared.Outcome.the-variants.{Refused}
-use Rattle.sheet.specs.Sheet.{gives, holds}
+use Rattle.ground.specs.Buffer.{holds}
+use Rattle.sheet.specs.Sheet.{gives}
 use Rattle.analysis.specs.Verdict.{Verdict, refused, bounded, recordOf}
 
 -- the refusal; or the answer record's length, where it has room: 10 comes last

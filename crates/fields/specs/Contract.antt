@@ -8,10 +8,22 @@ use Rattle.fields.specs.declared.Rule.{Rule}
 use Rattle.fields.specs.declared.Cursor.{Cursor}
 use Rattle.fields.specs.declared.Step.{Step}
 use Rattle.fields.specs.declared.Why.{Why}
-use Rattle.fields.specs.Rule.{fieldRule, nothing}
+use Rattle.fields.specs.Rule.{perServer, serverAt, flowAt, fieldRule, nothing}
 use Rattle.fields.specs.Cursor.{cursorAt, cursorAfter}
 use Rattle.fields.specs.Step.{stepOn}
 use Rattle.fields.specs.Refusal.{refusal}
+
+pub record PerServer (edition r : ℕ) : Type 0 where
+  -- "per server: R, T"
+  pub is : r ≡ perServer edition
+
+pub record ServerPlace (edition j c r : ℕ) : Type 0 where
+  -- the place of number c of server j, counted from 0
+  pub is : r ≡ serverAt edition j c
+
+pub record FlowPlace (edition servers k r : ℕ) : Type 0 where
+  -- the place of the first number of flow k, counted from 0
+  pub is : r ≡ flowAt edition servers k
 
 pub record FieldRule (user : User) (field servers prev : ℕ) (r : Rule) : Type 0 where
   -- the rule of a field by its number in the table, from N and the number before it

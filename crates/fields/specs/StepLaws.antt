@@ -2,6 +2,7 @@
 -- Assumes nothing.
 use Prim.Native.Nat.{ℕ, _≤_}
 use mathlib.Core.Path.{_≡_, refl}
+use mathlib.Core.Logic.{_⊎_, inl, inr}
 use mathlib.Core.Bool.{Bool, true, false, cond, _&&_}
 use native.Mathlib.Omega.{arith}
 use lib.Dec.{ltb, leb}
@@ -12,7 +13,7 @@ use Rattle.fields.specs.declared.Rule.{Rule}
 use Rattle.fields.specs.declared.Rule.the-variants.{Range}
 use Rattle.fields.specs.declared.Step.the-variants.{Value, Stop, End}
 use Rattle.fields.specs.declared.Why.{Why}
-use Rattle.fields.specs.declared.Why.the-variants.{Left}
+use Rattle.fields.specs.declared.Why.the-variants.{Left, Outside, OffPath}
 use Rattle.fields.specs.Rule.{allowed, whyOutside, isPast}
 use Rattle.fields.specs.Step.{admit, stepOn}
 
@@ -84,6 +85,34 @@ stop-by false l got.Large at r w d e = cc
 pub step-stopped : (g : Got) (size at : ℕ) (r : Rule) (w : Why) (d : ℕ) → stepOn g size at r ≡ Stop w d → d ≡ at
 unfolding stepOn
 step-stopped g size at r w d e = stop-by (isPast r) (ltb at size) g at r w d e
+
+-- 4 and 5 are of a number that was got and that its rule does not admit
+pub record Outlawed (g : Got) (r : Rule) : Type 0 where
+  pub number : ℕ
+  pub next : ℕ
+  pub read : g ≡ got.Number number next
+  pub barred : allowed r number ≡ false
+
+outside-by : (p l : Bool) (g : Got) (at : ℕ) (r : Rule) (w : Why) (d : ℕ) → (w ≡ Outside) ⊎ (w ≡ OffPath)
+    → cond p (cond l (Stop Left at) End) (admit g at r) ≡ Stop w d → Outlawed g r
+outside-by true true g at r w d (inl o) e = let q : _≡_ {A = ℕ} 0 1 = cc in absurd (omega arith)
+outside-by true true g at r w d (inr o) e = let q : _≡_ {A = ℕ} 0 1 = cc in absurd (omega arith)
+outside-by true false g at r w d o e = let q : _≡_ {A = ℕ} 0 1 = cc in absurd (omega arith)
+outside-by false l (got.Number x next) at r w d o e = by (allowed r x) refl e
+  where
+    by : (a : Bool) → allowed r x ≡ a → cond a (Value x next) (Stop (whyOutside r) at) ≡ Stop w d → Outlawed (got.Number x next) r
+    by true f e = let q : _≡_ {A = ℕ} 0 1 = cc in absurd (omega arith)
+    by false f e = record { number = x; next = next; read = refl; barred = f }
+outside-by false l got.Ends at r w d (inl o) e = let q : _≡_ {A = ℕ} 0 1 = cc in absurd (omega arith)
+outside-by false l got.Ends at r w d (inr o) e = let q : _≡_ {A = ℕ} 0 1 = cc in absurd (omega arith)
+outside-by false l got.Padded at r w d (inl o) e = let q : _≡_ {A = ℕ} 0 1 = cc in absurd (omega arith)
+outside-by false l got.Padded at r w d (inr o) e = let q : _≡_ {A = ℕ} 0 1 = cc in absurd (omega arith)
+outside-by false l got.Large at r w d (inl o) e = let q : _≡_ {A = ℕ} 0 1 = cc in absurd (omega arith)
+outside-by false l got.Large at r w d (inr o) e = let q : _≡_ {A = ℕ} 0 1 = cc in absurd (omega arith)
+
+pub step-outside : (g : Got) (size at : ℕ) (r : Rule) (w : Why) (d : ℕ) → (w ≡ Outside) ⊎ (w ≡ OffPath) → stepOn g size at r ≡ Stop w d → Outlawed g r
+unfolding stepOn
+step-outside g size at r w d o e = outside-by (isPast r) (ltb at size) g at r w d o e
 
 -- and the other way
 pub value-step : (g : Got) (size at : ℕ) (r : Rule) (x next : ℕ) → Gave g r x next → stepOn g size at r ≡ Value x next

@@ -9,7 +9,16 @@ use Rattle.fields.specs.declared.Rule.{Rule}
 use Rattle.fields.specs.declared.Cursor.{Cursor}
 use Rattle.fields.specs.declared.Step.{Step}
 use Rattle.fields.specs.declared.Why.{Why}
-use Rattle.fields.specs.Contract.{FieldRule, Start, After, StepOn, RefusalOf}
+use Rattle.fields.specs.Contract.{PerServer, ServerPlace, FlowPlace, FieldRule, Start, After, StepOn, RefusalOf}
+
+pub per-server-unique : (edition r r′ : ℕ) → PerServer edition r → PerServer edition r′ → r ≡ r′
+per-server-unique edition r r′ p q = one-value (p .is) (q .is)
+
+pub server-place-unique : (edition j c r r′ : ℕ) → ServerPlace edition j c r → ServerPlace edition j c r′ → r ≡ r′
+server-place-unique edition j c r r′ p q = one-value (p .is) (q .is)
+
+pub flow-place-unique : (edition servers k r r′ : ℕ) → FlowPlace edition servers k r → FlowPlace edition servers k r′ → r ≡ r′
+flow-place-unique edition servers k r r′ p q = one-value (p .is) (q .is)
 
 pub field-rule-unique : (user : User) (field servers prev : ℕ) (r r′ : Rule) → FieldRule user field servers prev r
     → FieldRule user field servers prev r′ → r ≡ r′

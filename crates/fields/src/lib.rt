@@ -1,8 +1,9 @@
 // The fields of a sheet: the rule of each, a cursor over them, one step over a field, and the numbers of all refusals.
 ghost use mathlib.Core.Path.{_≡_};
+ghost use Prim.Native.Nat.{_<_};
 ghost use Rattle.fields.specs.Rule.{modeRule, inRange, allowed, whyOutside, isPast};
 ghost use Rattle.fields.specs.Cursor.{standing};
-ghost use Rattle.fields.specs.Contract.{FieldRule, Start, After, StepOn, RefusalOf};
+ghost use Rattle.fields.specs.Contract.{PerServer, ServerPlace, FlowPlace, FieldRule, Start, After, StepOn, RefusalOf};
 
 // Whose rule it is: the reader's or the writer's.
 pub enum User {
@@ -53,6 +54,30 @@ pub enum Step {
     Value(u32, usize),
     Stop(Why, usize),
     End,
+}
+
+// How many numbers a server takes in an edition.
+pub fn per_server(edition: u32) -> usize
+    ensures { λ r. ⌜ PerServer edition r ⌝ }
+{
+    let rate_and_latency = 2;
+    rate_and_latency
+}
+
+// Where number c of server j stands, both counted from 0; the number of cross flows stands where the first of one server more would.
+pub fn server_place(edition: u32, j: usize, c: usize) -> usize
+    requires { ⌜ (j < 4294967296) × (c < 4294967296) ⌝ }
+    ensures { λ r. ⌜ ServerPlace edition j c r ⌝ }
+{
+    2 + c + per_server(edition) * j
+}
+
+// Where the numbers of flow k begin, counted from 0, behind so many servers; the watched flow's begin where those of one cross flow more would.
+pub fn flow_place(edition: u32, servers: usize, k: usize) -> usize
+    requires { ⌜ (servers < 4294967296) × (k < 4294967296) ⌝ }
+    ensures { λ r. ⌜ FlowPlace edition servers k r ⌝ }
+{
+    server_place(edition, servers, 1) + 4 * k
 }
 
 // The rule of the mode, the one field whose rule may differ between users.

@@ -7,8 +7,9 @@ use lib.Dec.{ltb}
 use lib.ListN.{getD}
 use Rattle.fields.specs.declared.Rule.{Rule}
 use Rattle.fields.specs.declared.Rule.the-variants.{Range, Path, ZeroOr, Past}
-use Rattle.fields.specs.Rule.{Seen, perServer, serverAt, flowAt}
+use Rattle.fields.specs.Rule.{Seen, perServer, serverAt, flowAt, fieldAt}
 use Rattle.text.specs.Lines.{field}
+use Rattle.naming.specs.declared.Extent.{Extent}
 
 -- "edition"
 abbrev pub editionWord : List ℕ
@@ -88,10 +89,22 @@ names k =
 unfoldable pub nameOf : ℕ → ℕ → List ℕ
 nameOf f k = getD (names k) f []
 
+-- What a list of numbers says, as far as it goes, of the places of its fields: its edition, N and its number of flows.
+abbrev pub extentIn : List ℕ → Extent
+extentIn xs = record { edition = getD xs 0 0; servers = getD xs 1 0; flows = getD xs (serverAt (getD xs 0 0) (getD xs 1 0) 0) 0 }
+
+-- as what was read before a field
+abbrev pub seen : Extent → Seen
+seen e = record { edition = e .edition; servers = e .servers; flows = e .flows; prev = 0 }
+
 -- Which server or flow the field at place i is of, counted from 1.
 unfoldable pub ownerAt : ℕ → Seen → ℕ
 ownerAt i e =
     cond (ltb i (serverAt (e .edition) (e .servers) 0)) ((i - 2) / perServer (e .edition) + 1) ((i - flowAt (e .edition) (e .servers) 0) / 4 + 1)
+
+-- The name of the field at place i.
+unfoldable pub nameAt : ℕ → Extent → List ℕ
+nameAt i e = nameOf (fieldAt i (seen e)) (ownerAt i (seen e))
 
 -- A word and behind it the two ends of a range: `, outside 1..16`.
 unfoldable pub endsOf : List ℕ → ℕ → ℕ → List ℕ

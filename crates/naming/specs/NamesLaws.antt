@@ -10,14 +10,13 @@ use Rattle.fields.specs.declared.Rule.{Rule}
 use Rattle.fields.specs.declared.Rule.the-variants.{Range, Path, ZeroOr, Past}
 use Rattle.fields.specs.Rule.{perServer, serverAt, flowAt, fieldAt}
 use Rattle.text.specs.Lines.{field}
-use Rattle.fields.specs.Rule.{perServer, serverAt, flowAt, fieldAt}
 use Rattle.text.specs.LinesLaws.{field-short}
 use Rattle.naming.specs.Names.{serverRateWord, latencyWord, firstWord, lastWord, burstWord, rateWord, outsideWord, neitherWord, upToWord, names}
-use Rattle.naming.specs.Names.{nameOf, ownerAt, endsOf, rangeOf}
-use Rattle.naming.specs.Contract.{seen}
+use Rattle.naming.specs.Names.{nameOf, seen, ownerAt, nameAt, endsOf, rangeOf}
+use Rattle.naming.specs.declared.Extent.{Extent}
 
 -- a name takes at most 41 bytes
-pub name-short : (f k : ℕ) → length (nameOf f k) ≤ 41
+name-short : (f k : ℕ) → length (nameOf f k) ≤ 41
 unfolding nameOf
 name-short zero k = omega arith
 name-short (suc zero) k = omega arith
@@ -33,6 +32,10 @@ name-short (suc (suc (suc (suc (suc (suc (suc (suc (suc (suc zero)))))))))) k = 
 name-short (suc (suc (suc (suc (suc (suc (suc (suc (suc (suc (suc zero))))))))))) k = omega arith
 name-short (suc (suc (suc (suc (suc (suc (suc (suc (suc (suc (suc (suc zero)))))))))))) k = omega arith
 name-short (suc (suc (suc (suc (suc (suc (suc (suc (suc (suc (suc (suc (suc f))))))))))))) k = omega arith
+
+pub name-at-short : (i : ℕ) (e : Extent) → length (nameAt i e) ≤ 41
+unfolding nameAt
+name-at-short i e = name-short (fieldAt i (seen e)) (ownerAt i (seen e))
 
 pub ends-length : (word : List ℕ) (low high : ℕ) → length (endsOf word low high) ≡ length (field word low) + length (field upToWord high)
 unfolding endsOf
@@ -78,33 +81,33 @@ unfolding nameOf
 name-behind f k h = List·getD-eq-default (names k) [] {n = f} h
 
 -- The field at a place, and whose it is, part by part.
-module _ (i edition n f : ℕ) where
-  pub field-head : i < 2 → fieldAt i (seen edition n f) ≡ i
+module _ (i : ℕ) (e : Extent) where
+  pub field-head : i < 2 → fieldAt i (seen e) ≡ i
   unfolding fieldAt
   field-head h = rw (lt-ltb i 2 h)
 
-  pub field-server : 2 ≤ i → i < serverAt edition n 0 → fieldAt i (seen edition n f) ≡ 2 + (i - 2) % perServer edition
+  pub field-server : 2 ≤ i → i < serverAt (e .edition) (e .servers) 0 → fieldAt i (seen e) ≡ 2 + (i - 2) % perServer (e .edition)
   unfolding fieldAt
-  field-server a h = rw (le-ltb i 2 a, lt-ltb i (serverAt edition n 0) h)
+  field-server a h = rw (le-ltb i 2 a, lt-ltb i (serverAt (e .edition) (e .servers) 0) h)
 
-  pub field-count : 2 ≤ i → serverAt edition n 0 ≤ i → i < flowAt edition n 0 → fieldAt i (seen edition n f) ≡ 4
+  pub field-count : 2 ≤ i → serverAt (e .edition) (e .servers) 0 ≤ i → i < flowAt (e .edition) (e .servers) 0 → fieldAt i (seen e) ≡ 4
   unfolding fieldAt
-  field-count a b h = rw (le-ltb i 2 a, le-ltb i (serverAt edition n 0) b, lt-ltb i (flowAt edition n 0) h)
+  field-count a b h = rw (le-ltb i 2 a, le-ltb i (serverAt (e .edition) (e .servers) 0) b, lt-ltb i (flowAt (e .edition) (e .servers) 0) h)
 
-  pub field-flow : 2 ≤ i → serverAt edition n 0 ≤ i → flowAt edition n 0 ≤ i → i < flowAt edition n f
-      → fieldAt i (seen edition n f) ≡ 5 + (i - flowAt edition n 0) % 4
+  pub field-flow : 2 ≤ i → serverAt (e .edition) (e .servers) 0 ≤ i → flowAt (e .edition) (e .servers) 0 ≤ i → i < flowAt (e .edition) (e .servers) (e .flows)
+      → fieldAt i (seen e) ≡ 5 + (i - flowAt (e .edition) (e .servers) 0) % 4
   unfolding fieldAt
-  field-flow a b c h = rw (le-ltb i 2 a, le-ltb i (serverAt edition n 0) b, le-ltb i (flowAt edition n 0) c, lt-ltb i (flowAt edition n f) h)
+  field-flow a b c h = rw (le-ltb i 2 a, le-ltb i (serverAt (e .edition) (e .servers) 0) b, le-ltb i (flowAt (e .edition) (e .servers) 0) c, lt-ltb i (flowAt (e .edition) (e .servers) (e .flows)) h)
 
-  pub field-rest : 2 ≤ i → serverAt edition n 0 ≤ i → flowAt edition n 0 ≤ i → flowAt edition n f ≤ i
-      → fieldAt i (seen edition n f) ≡ 9 + (i - flowAt edition n f)
+  pub field-rest : 2 ≤ i → serverAt (e .edition) (e .servers) 0 ≤ i → flowAt (e .edition) (e .servers) 0 ≤ i → flowAt (e .edition) (e .servers) (e .flows) ≤ i
+      → fieldAt i (seen e) ≡ 9 + (i - flowAt (e .edition) (e .servers) (e .flows))
   unfolding fieldAt
-  field-rest a b c h = rw (le-ltb i 2 a, le-ltb i (serverAt edition n 0) b, le-ltb i (flowAt edition n 0) c, le-ltb i (flowAt edition n f) h)
+  field-rest a b c h = rw (le-ltb i 2 a, le-ltb i (serverAt (e .edition) (e .servers) 0) b, le-ltb i (flowAt (e .edition) (e .servers) 0) c, le-ltb i (flowAt (e .edition) (e .servers) (e .flows)) h)
 
-  pub owner-server : i < serverAt edition n 0 → ownerAt i (seen edition n f) ≡ (i - 2) / perServer edition + 1
+  pub owner-server : i < serverAt (e .edition) (e .servers) 0 → ownerAt i (seen e) ≡ (i - 2) / perServer (e .edition) + 1
   unfolding ownerAt
-  owner-server h = rw (lt-ltb i (serverAt edition n 0) h)
+  owner-server h = rw (lt-ltb i (serverAt (e .edition) (e .servers) 0) h)
 
-  pub owner-flow : serverAt edition n 0 ≤ i → ownerAt i (seen edition n f) ≡ (i - flowAt edition n 0) / 4 + 1
+  pub owner-flow : serverAt (e .edition) (e .servers) 0 ≤ i → ownerAt i (seen e) ≡ (i - flowAt (e .edition) (e .servers) 0) / 4 + 1
   unfolding ownerAt
-  owner-flow h = rw (le-ltb i (serverAt edition n 0) h)
+  owner-flow h = rw (le-ltb i (serverAt (e .edition) (e .servers) 0) h)

@@ -1,53 +1,89 @@
 // The names of a sheet's fields, and the ranges of their rules, as text.
 ghost use Prim.Native.Nat.{_+_, _≤_};
+ghost use mathlib.Core.Path.{_≡_};
 ghost use lib.ListN.{length};
 ghost use Rattle.text.specs.Contract.{Put};
-ghost use Rattle.naming.specs.Names.{nameOf, endsOf, rangeOf};
-ghost use Rattle.naming.specs.Contract.{FieldAt, OwnerAt};
+ghost use Rattle.naming.specs.Names.{nameOf, seen, ownerAt, nameAt, endsOf, rangeOf};
+ghost use Rattle.naming.specs.Contract.{NumberAt, ExtentOf, FieldAt};
 use fields::Rule;
 
-// The number, in document 01's table, of the field at place i of a sheet with this edition, so many servers and flows.
-pub fn field_at(i: usize, edition: u32, servers: u32, flows: u32) -> usize
-    requires { ⌜ i ≤ 1000 ⌝ }
-    ensures { λ r. ⌜ FieldAt i edition servers flows r ⌝ }
+// What the places of a list's fields depend on: its edition, its number of servers and its number of cross flows.
+pub struct Extent {
+    pub edition: u32,
+    pub servers: u32,
+    pub flows: u32,
+}
+
+// The number at a place of a list, and 0 behind its end.
+pub fn number_at(numbers: &[u32], i: usize) -> u32
+    ensures { λ r. ⌜ NumberAt (now (numbers .entry)) i r ⌝ }
 {
-    let count = 2 + 2 * (servers as usize);
-    let rest = count + 1 + 4 * (flows as usize);
+    if i < numbers.len() { numbers[i] } else { 0 }
+}
+
+// The extent of a list of numbers, as far as it goes.
+pub fn extent_of(numbers: &[u32]) -> Extent
+    ensures { λ r. ⌜ ExtentOf (now (numbers .entry)) r ⌝ }
+{
+    let edition = number_at(numbers, 0);
+    let servers = number_at(numbers, 1);
+    let count = fields::server_place(edition, servers as usize, 0);
+    let flows = number_at(numbers, count);
+    Extent {
+        edition: edition,
+        servers: servers,
+        flows: flows,
+    }
+}
+
+// The number, in document 01's table, of the field at place i of a list with this extent.
+pub fn field_at(i: usize, e: Extent) -> usize
+    requires { ⌜ i ≤ 1000 ⌝ }
+    ensures { λ r. ⌜ FieldAt i e r ⌝ }
+{
+    let servers = e.servers as usize;
+    let each = fields::per_server(e.edition);
+    let count = fields::server_place(e.edition, servers, 0);
+    let first = fields::flow_place(e.edition, servers, 0);
+    let rest = fields::flow_place(e.edition, servers, e.flows as usize);
     if i < 2 {
         return i;
     }
     if i < count {
-        return 2 + (i - 2) % 2;
+        return 2 + (i - 2) % each;
     }
-    if i < count + 1 {
+    if i < first {
         return 4;
     }
     if i < rest {
-        return 5 + (i - (count + 1)) % 4;
+        return 5 + (i - first) % 4;
     }
     9 + (i - rest)
 }
 
-// Which server or flow the field at place i is of, counted from 1.
-pub fn owner_at(i: usize, edition: u32, servers: u32, flows: u32) -> usize
+// Which server or flow the field at place i is of, counted from 1; 1 where it is of none.
+fn owner_at(i: usize, e: Extent) -> usize
     requires { ⌜ i ≤ 1000 ⌝ }
-    ensures { λ r. ⌜ OwnerAt i edition servers flows r ⌝ }
+    ensures { λ r. ⌜ r ≡ ownerAt i (seen e) ⌝ }
 {
-    let count = 2 + 2 * (servers as usize);
+    let servers = e.servers as usize;
+    let each = fields::per_server(e.edition);
+    let count = fields::server_place(e.edition, servers, 0);
+    let first = fields::flow_place(e.edition, servers, 0);
     if i < 2 {
         return 1;
     }
     if i < count {
-        return (i - 2) / 2 + 1;
+        return (i - 2) / each + 1;
     }
-    if i < count + 1 {
+    if i < first {
         return 1;
     }
-    (i - (count + 1)) / 4 + 1
+    (i - first) / 4 + 1
 }
 
 // Writes the name of a field, by its number in the table, at a place of a page that has room for it there, and gives the place behind it.
-pub fn put_name(field: usize, owner: usize, page: &mut [u8], at: usize) -> usize
+fn put_name(field: usize, owner: usize, page: &mut [u8], at: usize) -> usize
     requires { ⌜ at + length (nameOf field owner) ≤ length (now page) ⌝ }
     ensures { λ r. ⌜ Put (nameOf field owner) (now (page .entry)) at r (now (page .exit)) ⌝ }
 {
@@ -67,6 +103,16 @@ pub fn put_name(field: usize, owner: usize, page: &mut [u8], at: usize) -> usize
         12 => text::put_word(b"g", page, at),
         _ => at,
     }
+}
+
+// Writes the name of the field at place i of a list with this extent, and gives the place behind it.
+pub fn put_name_at(i: usize, e: Extent, page: &mut [u8], at: usize) -> usize
+    requires { ⌜ (i ≤ 1000) × (at + length (nameAt i e) ≤ length (now page)) ⌝ }
+    ensures { λ r. ⌜ Put (nameAt i e) (now (page .entry)) at r (now (page .exit)) ⌝ }
+{
+    let field = field_at(i, e);
+    let owner = owner_at(i, e);
+    put_name(field, owner, page, at)
 }
 
 // Writes a word and behind it the two ends of a range.

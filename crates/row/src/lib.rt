@@ -15,13 +15,13 @@ ghost use Rattle.row.specs.Parts.{Reached, Groupable, amount, placeOf, S
 ghost use Rattle.row.specs.Contract.{ReachesOf, IsNotNested, Form, RowOf};
 use tandem::Flow;
 use tandem::Server;
-use tandem::flow_count;
 use tandem::flow_in;
 use tandem::flow_total;
 use tandem::list_flows;
 use tandem::list_servers;
 use tandem::lowest_crowded;
 use tandem::server_count;
+use tandem::watched_place;
 
 // A row: its servers; the watched flow, and behind it the groups in order, each as one flow; the mode; and the grid with 0 replaced by its meaning.
 pub struct Row {
@@ -335,7 +335,7 @@ pub fn row_of(numbers: &[u32]) -> Formed
     if 0 < j {
         return refused(Check::Crowded(j));
     }
-    let at = 3 + 2 * size + 4 * flow_count(numbers);
+    let at = watched_place(numbers);
     let mode = numbers[at + 2];
     let grid = grid_of(size, numbers[at + 3]);
     with_groups(&servers, size, &flows, n, &reaches, mode, grid)

@@ -7,6 +7,7 @@ pub mod WalkLaws
 pub mod EncodeLaws
 pub mod Valid
 pub mod ValidLaws
+pub mod OutsideLaws
 pub mod TripLaws
 pub mod WordLaws
 pub mod AcceptLaws

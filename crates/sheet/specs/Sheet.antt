@@ -3,8 +3,9 @@
 use Prim.Native.Nat.{ℕ, zero, suc, _+_}
 use mathlib.Core.List.{List, [], _∷_, _++_}
 use mathlib.Core.Bool.{cond}
-use lib.ListN.{length, getD, drop}
+use lib.ListN.{length, getD}
 use lib.Dec.{ltb}
+use Rattle.ground.specs.Buffer.{holds}
 use Rattle.numbers.specs.Seven.{numberAt, encode}
 use Rattle.numbers.specs.declared.Got.{Got}
 use Rattle.numbers.specs.declared.Got.the-variants as got
@@ -56,13 +57,10 @@ abbrev pub encodeAll : List ℕ → List ℕ
 encodeAll [] = []
 encodeAll (x ∷ xs) = encode x ++ encodeAll xs
 
--- What a function gives, and what the buffer lent to it then holds, where that much or those entries are to go into it: "10, the buffer is too
--- short, length needed" comes last; "entries past them stay"; "on refusal the buffer stays as it was".
+-- What a function gives where that much is to go into the buffer lent to it: "10, the buffer is too short, length needed" comes last. What the buffer
+-- then holds is `holds`: "entries past them stay"; "on refusal the buffer stays as it was".
 abbrev pub gives : ℕ → ℕ → Outcome
 gives needed room = cond (ltb room needed) (Refused Short needed) (Done needed)
-
-abbrev pub holds : List ℕ → List ℕ → List ℕ
-holds xs buffer = cond (ltb (length buffer) (length xs)) buffer (xs ++ drop (length xs) buffer)
 
 -- The reader: the numbers go into the list, and their count is given.
 abbrev pub readGives : Found → ℕ → Outcome

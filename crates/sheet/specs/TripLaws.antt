@@ -16,7 +16,8 @@ use Rattle.fields.specs.declared.User.the-variants.{Reader}
 use Rattle.fields.specs.declared.Outcome.the-variants.{Done, Refused}
 use Rattle.fields.specs.declared.Why.the-variants.{Short}
 use Rattle.fields.specs.Rule.{most, Seen, nothing, seenAfter}
-use Rattle.sheet.specs.Sheet.{Found, fail, these, walk, sheetOf, listOf, encodeAll, gives, holds, readGives, readHolds, writeGives, writeHolds}
+use Rattle.ground.specs.Buffer.{holds}
+use Rattle.sheet.specs.Sheet.{Found, fail, these, walk, sheetOf, listOf, encodeAll, gives, readGives, readHolds, writeGives, writeHolds}
 use Rattle.sheet.specs.WalkLaws.{Walked, gave, ended, walked, walk-none, list-whole}
 use Rattle.sheet.specs.EncodeLaws.{encode-append, length-next}
 use Rattle.sheet.specs.Valid.{Valid}

@@ -30,13 +30,13 @@ use Rattle.sheet.specs.WalkLaws.{Walked, gave, ended, walked, walk-none,
 use Rattle.sheet.specs.Valid.{edition, serverCount, serverPlace, countPlace, flowCount, flowPlace, watchedPlace, mode, grid, Within, Valid}
 
 -- What is known of a list where place i comes next.
-record Knows (xs : List ℕ) (i : ℕ) (e : Seen) : Type 0 where
+pub record Knows (xs : List ℕ) (i : ℕ) (e : Seen) : Type 0 where
   edition : 1 ≤ i → e .edition ≡ edition xs
   servers : 2 ≤ i → e .servers ≡ serverCount xs
   flows : flowPlace xs 0 ≤ i → e .flows ≡ flowCount xs
   prev : 1 ≤ i → e .prev ≡ getD xs (i - 1) 0
 
-knows-nothing : (xs : List ℕ) → Knows xs 0 nothing
+pub knows-nothing : (xs : List ℕ) → Knows xs 0 nothing
 knows-nothing xs = record {
   edition = λ h. absurd (omega arith);
   servers = λ h. absurd (omega arith);
@@ -44,7 +44,7 @@ knows-nothing xs = record {
   prev = λ h. absurd (omega arith);
 }
 
-knows-after : (xs : List ℕ) (i : ℕ) (e : Seen) → Knows xs i e → Knows xs (i + 1) (seenAfter e i (getD xs i 0))
+pub knows-after : (xs : List ℕ) (i : ℕ) (e : Seen) → Knows xs i e → Knows xs (i + 1) (seenAfter e i (getD xs i 0))
 unfolding seenAfter
 knows-after xs i e k = record {
   edition = λ h.
@@ -65,10 +65,10 @@ knows-after xs i e k = record {
         rw (ne-eqb i (serverAt (e .edition) (e .servers) 0) q) (k .flows (omega arith))
 
 -- Which field stands at a place of a list, and its rule.
-abbrev FieldAt : List ℕ → ℕ → Type 0
+abbrev pub FieldAt : List ℕ → ℕ → Type 0
 FieldAt xs i = Place (edition xs) (serverCount xs) (flowCount xs) i
 
-abbrev rule-of : User → (xs : List ℕ) (i : ℕ) → FieldAt xs i → Rule
+abbrev pub rule-of : User → (xs : List ℕ) (i : ℕ) → FieldAt xs i → Rule
 rule-of u xs i p = fieldRule u (serverCount xs) (getD xs (i - 1) 0) (field-in p)
 
 -- the rules of the fields before the flows ask for nothing that was read
@@ -83,7 +83,7 @@ plain-rule u n before n′ before′ (the-count q) h = refl
 plain-rule u n before n′ before′ (a-flow k c l m q) h = absurd (omega arith)
 plain-rule u n before n′ before′ (the-rest c q) h = absurd (omega arith)
 
-rule-known : (u : User) (xs : List ℕ) (i : ℕ) (e : Seen) → Knows xs i e → (p : FieldAt xs i) → ruleAt u i e ≡ rule-of u xs i p
+pub rule-known : (u : User) (xs : List ℕ) (i : ℕ) (e : Seen) → Knows xs i e → (p : FieldAt xs i) → ruleAt u i e ≡ rule-of u xs i p
 unfolding ruleAt
 rule-known u xs i e k p =
     let f : fieldAt i e ≡ field-in p = field-place e p (λ h. sym (k .edition h)) (λ h. sym (k .servers h)) (λ h. sym (k .flows h)) in

@@ -15,11 +15,11 @@ use Rattle.text.specs.Decimal.{decimal}
 use Rattle.text.specs.DecimalLaws.{AllDigits, decimal-all}
 use Rattle.text.specs.Lines.{field}
 use Rattle.naming.specs.Names.{editionWord, serversWord, serverRateWord, latencyWord, countWord, firstWord, lastWord, burstWord, rateWord}
-use Rattle.naming.specs.Names.{watchedBurstWord, watchedRateWord, modeWord, gridWord, nameOf, ownerAt}
+use Rattle.naming.specs.Names.{watchedBurstWord, watchedRateWord, modeWord, gridWord, nameOf, extentIn, seen, ownerAt, nameAt}
 use Rattle.scribe.specs.declared.Mark.the-variants.{Between}
 use Rattle.scribe.specs.Text.{isDigit, isBlank, these, also, lineAfter, textFrom, textOf}
 use Rattle.scribe.specs.TripLaws.{number-read, OneLine, comment-read, line-end-alone}
-use Rattle.showing.specs.Shown.{seenIn, nameAt, numberLine, linesFrom, shown}
+use Rattle.showing.specs.Shown.{numberLine, linesFrom, shown}
 
 -- A name stands in one line.
 
@@ -78,8 +78,8 @@ line-read : (room line : ℕ) (xs : List ℕ) (i : ℕ) (t : List ℕ) → getD 
     → textFrom (suc room) line Between (numberLine xs i ++ t) ≡ also (getD xs i 0) (textFrom room (line + 1) Between t)
 unfolding numberLine nameAt
 line-read room line xs i t h =
-    let name = nameOf (fieldAt i (seenIn xs)) (ownerAt i (seenIn xs)) in
-    let o : OneLine (32 ∷ name) = ((λ e. omega arith), name-line (fieldAt i (seenIn xs)) (ownerAt i (seenIn xs))) in
+    let name = nameOf (fieldAt i (seen (extentIn xs))) (ownerAt i (seen (extentIn xs))) in
+    let o : OneLine (32 ∷ name) = ((λ e. omega arith), name-line (fieldAt i (seen (extentIn xs))) (ownerAt i (seen (extentIn xs)))) in
     rw (append-assoc, append-assoc, append-assoc)
     (number-read room line (getD xs i 0) 32 (35 ∷ ((32 ∷ name) ++ (10 ∷ t))) h (blank-between .0) (blank-between .1)
     ∙ rw (same-line line) (ap (also (getD xs i 0)) (comment-read room line (32 ∷ name) t o)))

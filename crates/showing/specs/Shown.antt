@@ -4,31 +4,20 @@ use Prim.Native.Nat.{ℕ, zero, suc}
 use mathlib.Core.List.{List, [], _∷_, _++_}
 use lib.ListN.{length, getD}
 use Rattle.fields.specs.Refusal.{refusal}
-use Rattle.fields.specs.Rule.{Seen, fieldAt}
 use Rattle.sheet.specs.Sheet.{Found, fail, these, sheetOf}
-use Rattle.sheet.specs.Valid.{edition, serverCount, flowCount}
 use Rattle.text.specs.declared.Printed.{Printed}
 use Rattle.text.specs.declared.Printed.the-variants.{Answer, Refusal}
 use Rattle.text.specs.Decimal.{decimal}
 use Rattle.text.specs.Lines.{lineEnd, refusalLine}
-use Rattle.naming.specs.Names.{nameOf, ownerAt}
-use Rattle.naming.specs.Contract.{seen}
+use Rattle.naming.specs.Names.{extentIn, nameAt}
 
 -- " # "
 abbrev pub hashWord : List ℕ
 hashWord = 32 ∷ 35 ∷ 32 ∷ []
 
--- the edition, N and the number of flows that a list of numbers says
-abbrev pub seenIn : List ℕ → Seen
-seenIn xs = seen (edition xs) (serverCount xs) (flowCount xs)
-
--- the name of the field at place i
-unfoldable pub nameAt : List ℕ → ℕ → List ℕ
-nameAt xs i = nameOf (fieldAt i (seenIn xs)) (ownerAt i (seenIn xs))
-
 -- the line of the number at place i: `10 # rate of server 1`
 unfoldable pub numberLine : List ℕ → ℕ → List ℕ
-numberLine xs i = decimal (getD xs i 0) ++ (hashWord ++ (nameAt xs i ++ lineEnd))
+numberLine xs i = decimal (getD xs i 0) ++ (hashWord ++ (nameAt i (extentIn xs) ++ lineEnd))
 
 -- the lines of n numbers from place i on
 unfoldable pub linesFrom : List ℕ → ℕ → ℕ → List ℕ

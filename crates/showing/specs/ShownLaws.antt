@@ -6,35 +6,24 @@ use mathlib.Core.List.{List, [], _∷_, _++_}
 use native.Mathlib.Omega.{arith}
 use lib.ListN.{length, getD, length-append}
 use Rattle.fields.specs.Refusal.{refusal}
-use Rattle.fields.specs.Rule.{fieldAt}
 use Rattle.sheet.specs.Sheet.{Found, fail, these, sheetOf}
-use Rattle.sheet.specs.Valid.{edition, serverCount, flowCount}
 use Rattle.sheet.specs.ValidLaws.{read-valid, valid-length}
 use Rattle.text.specs.declared.Printed.{Printed}
 use Rattle.text.specs.Decimal.{decimal}
 use Rattle.text.specs.DecimalLaws.{decimal-few}
 use Rattle.text.specs.Lines.{lineEnd, bytesOf}
 use Rattle.text.specs.LinesLaws.{refusal-short}
-use Rattle.naming.specs.Names.{nameOf, ownerAt}
-use Rattle.naming.specs.Contract.{seen}
-use Rattle.naming.specs.NamesLaws.{name-short}
+use Rattle.naming.specs.Names.{extentIn, nameAt}
+use Rattle.naming.specs.NamesLaws.{name-at-short}
 use Rattle.showing.specs.Contract.{Show}
-use Rattle.showing.specs.Shown.{hashWord, seenIn, nameAt, numberLine, linesFrom, shown, showText, showPrinted, sheetPage}
+use Rattle.showing.specs.Shown.{hashWord, numberLine, linesFrom, shown, showText, showPrinted, sheetPage}
 
-pub line-length : (xs : List ℕ) (i : ℕ) → length (numberLine xs i) ≡ length (decimal (getD xs i 0)) + (3 + (length (nameAt xs i) + 1))
+pub line-length : (xs : List ℕ) (i : ℕ) → length (numberLine xs i) ≡ length (decimal (getD xs i 0)) + (3 + (length (nameAt i (extentIn xs)) + 1))
 unfolding numberLine
 line-length xs i = rw (length-append, length-append, length-append)
 
--- the name at a place, from the numbers that say where the fields stand
-pub name-here : (xs : List ℕ) (i : ℕ) {f o e n m : ℕ} → f ≡ fieldAt i (seen e n m) → o ≡ ownerAt i (seen e n m) → e ≡ edition xs → n ≡ serverCount xs
-    → m ≡ flowCount xs → nameOf f o ≡ nameAt xs i
-unfolding nameAt
-name-here xs i {f} {o} {e} {n} {m} a b p q r = rw (a, b, p, q, r)
-
 line-short : (xs : List ℕ) (i : ℕ) → length (numberLine xs i) ≤ 65
-unfolding nameAt
-line-short xs i =
-    omega (arith, line-length xs i, decimal-few (getD xs i 0), name-short (fieldAt i (seenIn xs)) (ownerAt i (seenIn xs)))
+line-short xs i = omega (arith, line-length xs i, decimal-few (getD xs i 0), name-at-short i (extentIn xs))
 
 lines-short : (xs : List ℕ) (i n : ℕ) → length (linesFrom xs i n) ≤ 65 * n
 unfolding linesFrom

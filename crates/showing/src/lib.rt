@@ -3,35 +3,15 @@ ghost use mathlib.Core.Path.{_≡_};
 ghost use Prim.Native.Nat.{_+_, _≤_, _<_};
 ghost use lib.ListN.{length, getD};
 ghost use lib.Seq.{sets};
-ghost use Rattle.fields.specs.Rule.{serverAt};
 ghost use Rattle.sheet.specs.Sheet.{sheetOf};
-ghost use Rattle.sheet.specs.Valid.{Valid, edition, serverCount, flowCount};
+ghost use Rattle.sheet.specs.Valid.{Valid};
+ghost use Rattle.naming.specs.Names.{extentIn};
 ghost use Rattle.text.specs.Contract.{Put};
 ghost use Rattle.showing.specs.Shown.{numberLine, shown, showText, showPrinted};
 ghost use Rattle.showing.specs.Contract.{Show};
 use fields::Outcome;
+use naming::Extent;
 use text::Printed;
-
-// What a sheet's places depend on: its edition, its number of servers and its number of cross flows.
-struct Extent {
-    edition: u32,
-    servers: u32,
-    flows: u32,
-}
-
-// The extent of a sheet's numbers.
-fn extent_of(numbers: &[u32]) -> Extent
-    requires { ⌜ Valid (now numbers) ⌝ }
-    ensures { λ r. ⌜ (r .edition ≡ edition (now (numbers .entry))) × (r .servers ≡ serverCount (now (numbers .entry))) × (r .flows ≡ flowCount (now (numbers .entry))) ⌝ }
-{
-    let n = numbers[1];
-    let count = 2 + 2 * (n as usize);
-    Extent {
-        edition: numbers[0],
-        servers: n,
-        flows: numbers[count],
-    }
-}
 
 // A number as a wider one.
 fn wide(x: u32) -> u64
@@ -42,7 +22,7 @@ fn wide(x: u32) -> u64
 
 // Writes the line of the number at place i.
 fn put_number_line(numbers: &[u32], i: usize, e: Extent, page: &mut [u8], at: usize) -> usize
-    requires extent { ⌜ (e .edition ≡ edition (now numbers)) × (e .servers ≡ serverCount (now numbers)) × (e .flows ≡ flowCount (now numbers)) ⌝ }
+    requires extent { ⌜ e ≡ extentIn (now numbers) ⌝ }
     requires inside { ⌜ (i < length (now numbers)) × (length (now numbers) ≤ 231) ⌝ }
     requires room { ⌜ at + length (numberLine (now numbers) i) ≤ length (now page) ⌝ }
     ensures { λ r. ⌜ Put (numberLine (now (numbers .entry)) i) (now (page .entry)) at r (now (page .exit)) ⌝ }
@@ -50,9 +30,7 @@ fn put_number_line(numbers: &[u32], i: usize, e: Extent, page: &mut [u8], at: us
     let x = wide(numbers[i]);
     let behind = text::put_decimal(x, page, at);
     let hash = text::put_word(b" # ", page, behind);
-    let field = naming::field_at(i, e.edition, e.servers, e.flows);
-    let owner = naming::owner_at(i, e.edition, e.servers, e.flows);
-    let named = naming::put_name(field, owner, page, hash);
+    let named = naming::put_name_at(i, e, page, hash);
     text::put_word(b"\n", page, named)
 }
 
@@ -62,7 +40,7 @@ fn put_lines(numbers: &[u32], page: &mut [u8]) -> usize
     requires room { ⌜ length (shown (now numbers)) ≤ length (now page) ⌝ }
     ensures { λ r. ⌜ Put (shown (now (numbers .entry))) (now (page .entry)) 0 r (now (page .exit)) ⌝ }
 {
-    let e = extent_of(numbers);
+    let e = naming::extent_of(numbers);
     let mut at: usize = 0;
     let mut i: usize = 0;
     while i < numbers.len() {

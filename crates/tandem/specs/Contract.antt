@@ -5,7 +5,7 @@ use mathlib.Core.Path.{_≡_}
 use mathlib.Core.List.{List, _++_}
 use Prim.Native.Nat.{ℕ, _*_, _≤_}
 use lib.ListN.{length, drop}
-use Rattle.sheet.specs.Valid.{serverCount, flowCount}
+use Rattle.sheet.specs.Valid.{serverCount, flowCount, watchedPlace}
 use Rattle.tandem.specs.declared.Server.{Server}
 use Rattle.tandem.specs.declared.Flow.{Flow}
 use Rattle.tandem.specs.Tandem.{size, flow}
@@ -40,6 +40,11 @@ pub record ServerAt (xs : List ℕ) (j : ℕ) (r : Server) : Type 0 where
 pub record CrossFlow (xs : List ℕ) (k : ℕ) (r : Flow) : Type 0 where
   -- cross flow k, counted from 0
   pub is : r ≡ flowOf xs k
+
+-- `watched_place`
+pub record WatchedPlace (xs : List ℕ) (r : ℕ) : Type 0 where
+  -- the place of "watched flow: σ"
+  pub is : r ≡ watchedPlace xs
 
 -- `watched_flow`
 pub record WatchedFlow (xs : List ℕ) (r : Flow) : Type 0 where

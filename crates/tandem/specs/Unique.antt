@@ -8,8 +8,8 @@ use lib.ListN.{length, getD}
 use lib.Seq.{ext-getD}
 use Rattle.tandem.specs.declared.Server.{Server}
 use Rattle.tandem.specs.declared.Flow.{Flow}
-use Rattle.tandem.specs.Contract.{ServerCount, FlowCount, FlowTotal, ServerAt, CrossFlow, WatchedFlow, FlowAt, ListServers, ListFlows, FlowIn}
-use Rattle.tandem.specs.Contract.{LoadsOf, LowestCrowded}
+use Rattle.tandem.specs.Contract.{ServerCount, FlowCount, FlowTotal, ServerAt, CrossFlow, WatchedPlace, WatchedFlow, FlowAt}
+use Rattle.tandem.specs.Contract.{ListServers, ListFlows, FlowIn, LoadsOf, LowestCrowded}
 
 pub server-count-unique : (xs : List ℕ) (a b : ℕ) → ServerCount xs a → ServerCount xs b → a ≡ b
 server-count-unique xs a b h k = h .is ∙ sym (k .is)
@@ -25,6 +25,9 @@ server-at-unique xs j a b h k = h .is ∙ sym (k .is)
 
 pub cross-flow-unique : (xs : List ℕ) (f : ℕ) (a b : Flow) → CrossFlow xs f a → CrossFlow xs f b → a ≡ b
 cross-flow-unique xs f a b h k = h .is ∙ sym (k .is)
+
+pub watched-place-unique : (xs : List ℕ) (a b : ℕ) → WatchedPlace xs a → WatchedPlace xs b → a ≡ b
+watched-place-unique xs a b h k = h .is ∙ sym (k .is)
 
 pub watched-flow-unique : (xs : List ℕ) (a b : Flow) → WatchedFlow xs a → WatchedFlow xs b → a ≡ b
 watched-flow-unique xs a b h k = h .is ∙ sym (k .is)

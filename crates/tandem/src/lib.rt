@@ -5,7 +5,7 @@ ghost use lib.ListN.{length};
 ghost use Rattle.sheet.specs.Valid.{Valid, serverCount, flowCount};
 ghost use Rattle.tandem.specs.OfSheet.{tandemOf};
 ghost use Rattle.tandem.specs.Loads.{Roomy, Added};
-ghost use Rattle.tandem.specs.Contract.{ServerCount, FlowCount, FlowTotal, ServerAt, CrossFlow, WatchedFlow, FlowAt, ListServers, ListFlows, FlowIn, LoadsOf, LowestCrowded};
+ghost use Rattle.tandem.specs.Contract.{ServerCount, FlowCount, FlowTotal, ServerAt, CrossFlow, WatchedPlace, WatchedFlow, FlowAt, ListServers, ListFlows, FlowIn, LoadsOf, LowestCrowded};
 
 // A server: its rate R in bytes a slot and its latency T in slots.
 pub struct Server {
@@ -42,7 +42,8 @@ pub fn flow_count(numbers: &[u32]) -> usize
     ensures { λ r. ⌜ FlowCount (now (numbers .entry)) r ⌝ }
 {
     let n = server_count(numbers);
-    wide(numbers[2 + 2 * n])
+    let at = fields::server_place(numbers[0], n, 0);
+    wide(numbers[at])
 }
 
 // How many flows the row has, the watched one included.
@@ -58,8 +59,9 @@ pub fn server_at(numbers: &[u32], j: usize) -> Server
     requires { ⌜ Valid (now numbers) × (j < serverCount (now numbers)) ⌝ }
     ensures { λ r. ⌜ ServerAt (now (numbers .entry)) j r ⌝ }
 {
-    let rate = wide(numbers[2 + 2 * j]);
-    let latency = wide(numbers[3 + 2 * j]);
+    let edition = numbers[0];
+    let rate = wide(numbers[fields::server_place(edition, j, 0)]);
+    let latency = wide(numbers[fields::server_place(edition, j, 1)]);
     Server {
         rate: rate as u64,
         latency: latency as u64,
@@ -72,7 +74,7 @@ pub fn cross_flow(numbers: &[u32], k: usize) -> Flow
     ensures { λ r. ⌜ CrossFlow (now (numbers .entry)) k r ⌝ }
 {
     let n = server_count(numbers);
-    let at = 3 + 2 * n + 4 * k;
+    let at = fields::flow_place(numbers[0], n, k);
     let first = wide(numbers[at]);
     let last = wide(numbers[at + 1]);
     let burst = wide(numbers[at + 2]);
@@ -85,14 +87,23 @@ pub fn cross_flow(numbers: &[u32], k: usize) -> Flow
     }
 }
 
+// Where the watched flow's numbers begin; the mode and g stand behind its two.
+pub fn watched_place(numbers: &[u32]) -> usize
+    requires { ⌜ Valid (now numbers) ⌝ }
+    ensures { λ r. ⌜ WatchedPlace (now (numbers .entry)) r ⌝ }
+{
+    let n = server_count(numbers);
+    let m = flow_count(numbers);
+    fields::flow_place(numbers[0], n, m)
+}
+
 // The watched flow, which crosses all servers.
 pub fn watched_flow(numbers: &[u32]) -> Flow
     requires { ⌜ Valid (now numbers) ⌝ }
     ensures { λ r. ⌜ WatchedFlow (now (numbers .entry)) r ⌝ }
 {
     let n = server_count(numbers);
-    let m = flow_count(numbers);
-    let at = 3 + 2 * n + 4 * m;
+    let at = watched_place(numbers);
     let burst = wide(numbers[at]);
     let rate = wide(numbers[at + 1]);
     Flow {

@@ -1,10 +1,12 @@
 -- `composing::put_fault` meets its contract: by the number of the refusal; the name and the rest are put behind the opening words.
 -- Assumes nothing.
-use Prim.Native.Nat.{_+_, _≤_}
+use Prim.Native.Nat.{ℕ, _+_, _≤_}
+use mathlib.Core.Path.{_≡_, ap}
 use native.Mathlib.Omega.{arith}
 use lib.ListN.{length}
 use Rattle.text.specs.PutLaws.{put-then, room-behind}
-use Rattle.composing.specs.Composed.{openWord, fieldName, faultEnd}
+use Rattle.naming.specs.Names.{extentIn, nameAt}
+use Rattle.composing.specs.Composed.{openWord, faultEnd}
 use Rattle.composing.proofs.Complaining.{fault-left, fault-named, named-length}
 use borrow.Author.Needs.{needs}
 use Rattle.composing.proofs.put_fault.Statement.{statement}
@@ -13,7 +15,7 @@ use Rattle.composing.proofs.put_fault.Tie as tie
 -- the opening words, the name and the rest have room
 all-room : (c : tie.Else1)
     → c .before .before .before .before .args .at
-    + (2 + (length (fieldName (c .before .before .before .before .args .numbers .now) (c .before .before .before .before .args .place))
+    + (2 + (length (nameAt (c .before .before .before .before .args .place) (extentIn (c .before .before .before .before .args .numbers .now)))
     + length (faultEnd (c .before .before .before .before .args .numbers .now) (c .before .before .before .before .args .number) (c .before .before .before .before .args .place))))
     ≤ length (c .before .before .before .before .args .page .now)
 all-room c =
@@ -23,7 +25,7 @@ all-room c =
 
 behind-open : (c : tie.After-put-word2)
     → c .put-word2 .result
-    + (length (fieldName (c .before .before .before .before .before .before .before .args .numbers .now) (c .before .before .before .before .before .before .before .args .place))
+    + (length (nameAt (c .before .before .before .before .before .before .before .args .place) (extentIn (c .before .before .before .before .before .before .before .args .numbers .now)))
     + length (faultEnd (c .before .before .before .before .before .before .before .args .numbers .now) (c .before .before .before .before .before .before .before .args .number) (c .before .before .before .before .before .before .before .args .place)))
     ≤ length (c .put-word2 .last .1 .0)
 behind-open c = room-behind openWord _ _ _ (c .put-word2 .ensures) (all-room (c .before .before .before))
@@ -55,18 +57,27 @@ slice-aggregate-put-word-2 c = search needs
 put-word-requires-2 : tie.Need-put-word-requires-2
 put-word-requires-2 c κs = omega (arith, all-room (c .before .before))
 
-put-field-name-requires : tie.Need-put-field-name-requires
-put-field-name-requires c κs =
-    let w = c .before .before .before in
+extent-of-requires : tie.Need-extent-of-requires
+extent-of-requires c κs = search needs
+
+-- the name that is put is the field's
+name-is : (c : tie.After-extent-of) (d : ℕ) → nameAt d (c .extent-of .result) ≡ nameAt d (extentIn (c .before .before .before .before .before .before .before .before .before .before .args .numbers .now))
+name-is c d = ap (nameAt d) (c .extent-of .ensures .is)
+
+put-name-at-requires : tie.Need-put-name-at-requires
+put-name-at-requires c κs =
+    let e = c .before in
+    let w = e .before .before .before in
     let s = w .before .before .before .before .before .before .before in
-    (s .pre .0, omega (arith, behind-open w))
+    (s .pre .0, omega (arith, behind-open w, ap length (name-is e (s .args .place))))
 
 put-end-requires : tie.Need-put-end-requires
 put-end-requires c κs =
     let n = c .before .before .before in
-    let w = n .before .before .before .before in
+    let e = n .before .before in
+    let w = e .before .before .before in
     let s = w .before .before .before .before .before .before .before in
-    (s .pre .0, room-behind _ _ _ _ (n .put-field-name .ensures) (behind-open w))
+    (s .pre .0, room-behind _ _ _ _ (n .put-name-at .ensures) (omega (arith, behind-open w, ap length (name-is e (s .args .place)))))
 
 same-length-2 : tie.Need-same-length-2
 same-length-2 c = search needs
@@ -75,10 +86,11 @@ returns-2 : tie.Need-returns-2
 returns-2 c =
     let p = c .before .before in
     let n = p .before .before .before .before in
-    let w = n .before .before .before .before in
+    let x = n .before .before in
+    let w = x .before .before .before in
     let e = w .before .before .before in
-    rw (fault-named _ _ _ _ (e .before .refusal-of .ensures .is) (e .if1 .left))
-    (put-then openWord _ _ _ (w .put-word2 .ensures) (put-then _ _ _ _ (n .put-field-name .ensures) (p .put-end .ensures)))
+    rw (fault-named _ _ _ _ (e .before .refusal-of .ensures .is) (e .if1 .left), ← name-is x (e .before .before .before .before .args .place))
+    (put-then openWord _ _ _ (w .put-word2 .ensures) (put-then _ _ _ _ (n .put-name-at .ensures) (p .put-end .ensures)))
 
 pub put-fault-spec : {M : Type 1} → statement M
 put-fault-spec =
@@ -91,7 +103,8 @@ put-fault-spec =
     returns
     slice-aggregate-put-word-2
     put-word-requires-2
-    put-field-name-requires
+    extent-of-requires
+    put-name-at-requires
     put-end-requires
     same-length-2
     returns-2)

@@ -20,7 +20,7 @@ all-room : (c : tie.After-wide)
     ≤ length (c .before .before .before .before .args .page .now)
 all-room c =
     let s = c .before .before .before .before in
-    let e : field isWord (c .wide .result) ≡ field isWord (getD (s .args .numbers .now) (s .args .place) 0) = ap (field isWord) (c .wide .ensures ∙ c .before .number-at .ensures) in
+    let e : field isWord (c .wide .result) ≡ field isWord (getD (s .args .numbers .now) (s .args .place) 0) = ap (field isWord) (c .wide .ensures ∙ c .before .number-at .ensures .is) in
     omega (arith, s .pre .1, outside-length (s .args .numbers .now) (s .args .place), ap length e)
 
 behind-number : (c : tie.After-put-field)
@@ -73,7 +73,7 @@ returns c =
     let f = r .before .before .before in
     let x = f .before .before .before in
     let s = x .before .before .before .before in
-    let e = x .wide .ensures ∙ x .before .number-at .ensures in
+    let e = x .wide .ensures ∙ x .before .number-at .ensures .is in
     rw (← e, ← range-said (s .args .numbers .now) (s .args .place) _ (r .rule-at .ensures)) (put-then _ _ _ _ (f .put-field .ensures) (put-then _ lineEnd _ _ (g .put-range .ensures) (w .put-word .ensures)))
 
 pub put-outside-spec : {M : Type 1} → statement M

@@ -1,6 +1,6 @@
 -- `composing::rule_at` meets its contract: the field is the one at that place, and its rule is the table's.
 -- Assumes nothing.
-use Rattle.composing.proofs.Complaining.{field-said, rule-said}
+use Rattle.composing.proofs.Complaining.{rule-said}
 use borrow.Author.Needs.{needs}
 use Rattle.composing.proofs.rule_at.Statement.{statement}
 use Rattle.composing.proofs.rule_at.Tie as tie
@@ -26,7 +26,7 @@ returns c =
     let f = p .before in
     let e = f .before in
     let s = e .before .before in
-    rule-said (s .args .numbers .now) (s .args .place) (c .field-rule .ensures .is) (field-said (s .args .numbers .now) (s .args .place) (f .field-at .ensures .is) (e .extent-of .ensures)) (e .extent-of .ensures .1) (c .before .number-at .ensures) (p .place-before .ensures)
+    rule-said (s .args .numbers .now) (s .args .place) (c .field-rule .ensures .is) (f .field-at .ensures .is) (e .extent-of .ensures .is) (c .before .number-at .ensures .is) (p .place-before .ensures)
 
 pub rule-at-spec : {M : Type 1} → statement M
 rule-at-spec =

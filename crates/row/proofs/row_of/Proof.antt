@@ -128,20 +128,8 @@ returns-2 c = record {
       ∙ sym (formed-sheet x ∙ formed-crowded (tandemOf x) (mode x) (gridOf (serverCount x) (grid x)) (nested-is q ∙ k .before .if1 .left) _ (k .lowest-crowded .ensures .is) (c .before .if2 .taken));
 }
 
-mul-at : tie.Need-mul-at
-mul-at c = search needs
-
-add-at : tie.Need-add-at
-add-at c = search needs
-
-flow-count-requires : tie.Need-flow-count-requires
-flow-count-requires c κs = search needs
-
-mul-at-2 : tie.Need-mul-at-2
-mul-at-2 c = search needs
-
-add-at-2 : tie.Need-add-at-2
-add-at-2 c = search needs
+watched-place-requires : tie.Need-watched-place-requires
+watched-place-requires c κs = search needs
 
 add-mode : tie.Need-add-mode
 add-mode c = search needs
@@ -177,11 +165,11 @@ slice-aggregate-with-groups-3 c = search needs
 grid-is : (g : tie.After-grid-of) → let p = g .before .before .before .before .before .before .before .before .before .before .before .before .before in
     g .grid-of .result ≡ gridOf (serverCount (xs p)) (grid (xs p))
 grid-is g =
-    let f = g .before .before .before in
-    let p = f .before .before .before .before .before .before .before .before .before .before in
+    let w = g .before .before .before in
+    let p = w .before .before .before .before .before .before .before .before .before .before in
     g .grid-of .ensures
-    ∙ ap (λ (n : ℕ). gridOf n (getD (xs p) (3 + 2 * n + 4 * f .flow-count .result + 3) 0)) (long-is p)
-    ∙ ap (λ (m : ℕ). gridOf (serverCount (xs p)) (getD (xs p) (3 + 2 * serverCount (xs p) + 4 * m + 3) 0)) (f .flow-count .ensures .is)
+    ∙ ap (λ (n : ℕ). gridOf n (getD (xs p) (w .watched-place .result + 3) 0)) (long-is p)
+    ∙ ap (λ (a : ℕ). gridOf (serverCount (xs p)) (getD (xs p) (a + 3) 0)) (w .watched-place .ensures .is)
 
 with-groups-requires : tie.Need-with-groups-requires
 with-groups-requires c κs = let g = c .before .before .before in
@@ -198,13 +186,12 @@ with-groups-requires c κs = let g = c .before .before .before in
 returns-3 : tie.Need-returns-3
 returns-3 c = record {
   is = let g = c .before .before .before .before in
-      let f = g .before .before .before in
-      let p = f .before .before .before .before .before .before .before .before .before .before in
+      let w = g .before .before .before in
+      let p = w .before .before .before .before .before .before .before .before .before .before in
       c .with-groups .ensures
-      ∙ ap (λ (row : Tandem). formedFor row (getD (xs p) (3 + 2 * long p + 4 * f .flow-count .result + 2) 0) (g .grid-of .result)) (held p)
-      ∙ ap (λ (z : ℕ). formedFor (tandemOf (xs p)) (getD (xs p) (3 + 2 * long p + 4 * f .flow-count .result + 2) 0) z) (grid-is g)
-      ∙ ap (λ (n : ℕ). formedFor (tandemOf (xs p)) (getD (xs p) (3 + 2 * n + 4 * f .flow-count .result + 2) 0) (gridOf (serverCount (xs p)) (grid (xs p)))) (long-is p)
-      ∙ ap (λ (m : ℕ). formedFor (tandemOf (xs p)) (getD (xs p) (3 + 2 * serverCount (xs p) + 4 * m + 2) 0) (gridOf (serverCount (xs p)) (grid (xs p)))) (f .flow-count .ensures .is)
+      ∙ ap (λ (row : Tandem). formedFor row (getD (xs p) (w .watched-place .result + 2) 0) (g .grid-of .result)) (held p)
+      ∙ ap (λ (z : ℕ). formedFor (tandemOf (xs p)) (getD (xs p) (w .watched-place .result + 2) 0) z) (grid-is g)
+      ∙ ap (λ (a : ℕ). formedFor (tandemOf (xs p)) (getD (xs p) (a + 2) 0) (gridOf (serverCount (xs p)) (grid (xs p)))) (w .watched-place .ensures .is)
       ∙ sym (formed-sheet (xs p));
 }
 
@@ -228,11 +215,7 @@ row-of-spec =
     lowest-crowded-requires
     refused-requires-2
     returns-2
-    mul-at
-    add-at
-    flow-count-requires
-    mul-at-2
-    add-at-2
+    watched-place-requires
     add-mode
     mul-mode
     shared-slice-read-mode

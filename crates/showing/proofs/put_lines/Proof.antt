@@ -27,7 +27,7 @@ put-number-line-requires c κs =
     let t = c .before in
     let x = t .before .before in
     let s = x .before .before .before in
-    (x .extent-of .ensures, ((t .loop-test .taken, valid-length _ (s .pre .0)), fits (t .before .loop .inv) (t .loop-test .taken) (s .pre .1)))
+    (x .extent-of .ensures .is, ((t .loop-test .taken, valid-length _ (s .pre .0)), fits (t .before .loop .inv) (t .loop-test .taken) (s .pre .1)))
 
 add-i : tie.Need-add-i Inv-loop μ-loop
 add-i c = search needs

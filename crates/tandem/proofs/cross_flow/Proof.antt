@@ -7,17 +7,11 @@ use Rattle.tandem.proofs.cross_flow.Tie as tie
 server-count-requires : tie.Need-server-count-requires
 server-count-requires c κs = search needs
 
-mul-at : tie.Need-mul-at
-mul-at c = search needs
+shared-slice-read-flow-place : tie.Need-shared-slice-read-flow-place
+shared-slice-read-flow-place c = search needs
 
-add-at : tie.Need-add-at
-add-at c = search needs
-
-mul-at-2 : tie.Need-mul-at-2
-mul-at-2 c = search needs
-
-add-at-2 : tie.Need-add-at-2
-add-at-2 c = search needs
+flow-place-requires : tie.Need-flow-place-requires
+flow-place-requires c κs = search needs
 
 mul-wide : tie.Need-mul-wide
 mul-wide c = search needs
@@ -65,17 +59,17 @@ wide-requires-4 : tie.Need-wide-requires-4
 wide-requires-4 c κs = search needs
 
 returns : tie.Need-returns
-returns c = record { is = rw (c .before .before .before .before .before .before .wide .ensures, c .before .before .before .before .wide2 .ensures, c .before .before .wide3 .ensures, c .wide4 .ensures, c .before .before .before .before .before .before .before .before .server-count .ensures .is) }
+returns c =
+    let a = c .before .before .before .before .before .before .before .before in
+    record { is = rw (c .before .before .before .before .before .before .wide .ensures, c .before .before .before .before .wide2 .ensures, c .before .before .wide3 .ensures, c .wide4 .ensures, a .flow-place .ensures .is, a .before .before .server-count .ensures .is) }
 
 pub cross-flow-spec : {M : Type 1} → statement M
 cross-flow-spec =
     tie.close
     (tie.spec
     server-count-requires
-    mul-at
-    add-at
-    mul-at-2
-    add-at-2
+    shared-slice-read-flow-place
+    flow-place-requires
     mul-wide
     shared-slice-read-wide
     wide-requires

@@ -7,20 +7,8 @@ use Rattle.tandem.proofs.watched_flow.Tie as tie
 server-count-requires : tie.Need-server-count-requires
 server-count-requires c κs = search needs
 
-flow-count-requires : tie.Need-flow-count-requires
-flow-count-requires c κs = search needs
-
-mul-at : tie.Need-mul-at
-mul-at c = search needs
-
-add-at : tie.Need-add-at
-add-at c = search needs
-
-mul-at-2 : tie.Need-mul-at-2
-mul-at-2 c = search needs
-
-add-at-2 : tie.Need-add-at-2
-add-at-2 c = search needs
+watched-place-requires : tie.Need-watched-place-requires
+watched-place-requires c κs = search needs
 
 mul-wide : tie.Need-mul-wide
 mul-wide c = search needs
@@ -44,18 +32,16 @@ wide-requires-2 : tie.Need-wide-requires-2
 wide-requires-2 c κs = search needs
 
 returns : tie.Need-returns
-returns c = record { is = rw (c .before .before .wide .ensures, c .wide2 .ensures, c .before .before .before .before .flow-count .ensures .is, c .before .before .before .before .before .server-count .ensures .is) }
+returns c =
+    let a = c .before .before .before .before in
+    record { is = rw (c .before .before .wide .ensures, c .wide2 .ensures, a .watched-place .ensures .is, a .before .server-count .ensures .is) }
 
 pub watched-flow-spec : {M : Type 1} → statement M
 watched-flow-spec =
     tie.close
     (tie.spec
     server-count-requires
-    flow-count-requires
-    mul-at
-    add-at
-    mul-at-2
-    add-at-2
+    watched-place-requires
     mul-wide
     shared-slice-read-wide
     wide-requires

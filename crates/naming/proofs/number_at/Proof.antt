@@ -1,10 +1,10 @@
--- `composing::number_at` meets its contract: behind its end a list has 0.
+-- `naming::number_at` meets its contract: behind its end a list has 0.
 -- Assumes nothing.
 use mathlib.Core.Path.{sym}
 use lib.ListN.{List·getD-eq-default}
 use borrow.Author.Needs.{needs}
-use Rattle.composing.proofs.number_at.Statement.{statement}
-use Rattle.composing.proofs.number_at.Tie as tie
+use Rattle.naming.proofs.number_at.Statement.{statement}
+use Rattle.naming.proofs.number_at.Tie as tie
 
 mul-result : tie.Need-mul-result
 mul-result c = search needs
@@ -16,7 +16,7 @@ returns : tie.Need-returns
 returns c = search needs
 
 returns-2 : tie.Need-returns-2
-returns-2 c = sym (List·getD-eq-default (c .before .args .numbers .now) 0 {n = c .before .args .i} (c .if1 .left))
+returns-2 c = record { is = sym (List·getD-eq-default (c .before .args .numbers .now) 0 {n = c .before .args .i} (c .if1 .left)) }
 
 pub number-at-spec : {M : Type 1} → statement M
 number-at-spec = tie.close (tie.spec mul-result shared-slice-read-result returns returns-2)
