@@ -1,22 +1,19 @@
 -- What the analysis finds at each step: the numbers that were read, the row that was formed, and the listing of a row that passed.
 -- Assumes nothing.
-use Prim.Native.Nat.{ℕ, _-_, _≤_}
-use mathlib.Core.Path.{_≡_, refl, sym, ap, _∙_}
+use Prim.Native.Nat.{ℕ}
+use mathlib.Core.Path.{_≡_, sym, ap, _∙_}
 use mathlib.Core.List.{List}
-use native.Mathlib.Omega.{arith}
-use lib.ListN.{length, take}
 use Rattle.fields.specs.declared.Why.{Why}
-use Rattle.sheet.specs.Valid.{serverCount, mode, grid, Valid}
+use Rattle.sheet.specs.Valid.{Valid}
 use Rattle.row.specs.declared.Formed.{Formed}
 use Rattle.row.specs.declared.Check.{Check}
 use Rattle.row.specs.declared.Check.the-variants as check
 use Rattle.row.specs.Groups.{groups}
-use Rattle.tandem.specs.OfSheet.{tandemOf}
 use Rattle.row.specs.RowFor.{rowWhere}
 use Rattle.row.specs.OfSheet.{rowOf, checkOf, formedOf}
 use Rattle.search.specs.Point.{searched}
 use Rattle.search.specs.Searchable.{Searchable}
-use Rattle.analysis.specs.Verdict.{Verdict, refused, listingOf, verdictBy, verdictOn}
+use Rattle.analysis.specs.Verdict.{refused, listingOf, verdictBy, verdictOn}
 use Rattle.analysis.specs.VerdictLaws.{passed-listed}
 use Rattle.analysis.specs.Held.{blank, filled, rowHeld, numbersHeld}
 use Rattle.analysis.specs.SearchLaws.{search-is-searched, searchable, count-held}

@@ -3,17 +3,17 @@
 use Prim.Native.Nat.{ℕ, _-_}
 use mathlib.Core.List.{List}
 use lib.ListN.{length, replicate}
+use Rattle.tandem.specs.Tandem.{noFlow}
 use Rattle.fields.specs.declared.Why.{Why}
 use Rattle.sheet.specs.Sheet.{Found, fail, these, sheetOf}
 use Rattle.tandem.specs.declared.Flow.{Flow}
 use Rattle.row.specs.declared.Row.{Row}
 use Rattle.row.specs.RowFor.{padded}
-use Rattle.row.specs.OfSheet.{rowOf, checkOf}
+use Rattle.row.specs.OfSheet.{rowOf}
 use Rattle.tree.specs.Grid as grid
-use Rattle.tree.specs.Planned.{noFlow}
 use Rattle.analysis.specs.declared.Judged.the-variants.{Refused, Bounded}
 use Rattle.analysis.specs.declared.Analysed.{Analysed}
-use Rattle.analysis.specs.Verdict.{Listing, listingOf, Verdict, refused, bounded, verdictOn}
+use Rattle.analysis.specs.Verdict.{Listing, Verdict, refused, bounded, verdictOn}
 
 -- a refusal, with nothing beside it
 abbrev pub blank : Why → ℕ → Analysed

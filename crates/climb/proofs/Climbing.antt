@@ -13,12 +13,12 @@ use borrow.Author.Tests.{leb-true, leb-false}
 use lib.Dec.{leb}
 use lib.ListN.{length, take, getD, length-take, length-drop}
 use lib.Seq.{slice, getD-take, length-take-le, take-length}
+use Rattle.tandem.specs.Tandem.{noFlow}
 use Rattle.curves.specs.declared.Stage.{Stage}
-use Rattle.curves.specs.Curve.{Shape, All, Rates, line, delay}
+use Rattle.curves.specs.Curve.{Shape, Rates, line, delay}
 use Rattle.curves.specs.Held.{Live, Leaves, InRange, Holds, shapeOf}
 use Rattle.curves.specs.HeldLaws.{live-rates}
 use Rattle.curves.specs.DelayLaws.{delay-le}
-use Rattle.curves.specs.StageLaws.{all-weaken}
 use Rattle.curves.specs.Part.{changed, lagIn}
 use Rattle.curves.specs.PartLaws.{changed-inside, changed-outside, lag-le}
 use Rattle.tandem.specs.declared.Flow.{Flow}
@@ -26,8 +26,7 @@ use Rattle.tandem.specs.Sums.{weigh}
 use Rattle.tandem.specs.TestLaws.{or-cases}
 use Rattle.tandem.specs.OfSheetLaws.{length-listed, listed-at}
 use Rattle.ground.specs.Each.{Each}
-use Rattle.ground.specs.EachLaws.{each-at}
-use Rattle.tree.specs.Planned.{noFlow}
+use Rattle.ground.specs.EachLaws.{each-at, each-map}
 use Rattle.tree.specs.Ordered.{Placed}
 use Rattle.grid.specs.declared.Steps.{Steps}
 use Rattle.grid.specs.Steps.{stepAt, digitsOf, valuesOf}
@@ -129,8 +128,8 @@ module _ (flows : List ℕ) (steps : Steps) (k : ℕ) (s : Branch) (wants : List
     pub range-end : InRange (s .curve)
     range-end =
         let c = shapeOf (s .curve) in
-        let l : All Live (slice 0 (length (c .stages)) (c .stages)) = path-live c 0 (length (c .stages)) rates-end (r .small) (omega (arith, r .soon)) in
-        record { few = r .size; near = omega (arith, r .soon); live = subst (All Live) (take-length (c .stages)) l }
+        let l : Each Live (slice 0 (length (c .stages)) (c .stages)) = path-live c 0 (length (c .stages)) rates-end (r .small) (omega (arith, r .soon)) in
+        record { few = r .size; near = omega (arith, r .soon); live = subst (Each Live) (take-length (c .stages)) l }
 
     pub delay-end : delay (shapeOf (s .curve)) (w .burst) (w .rate) < 2 ^ 42
     delay-end = omega (arith, delay-le (shapeOf (s .curve)) (w .burst) (w .rate) rates-end, r .soon, light-end)
@@ -218,7 +217,7 @@ module _ (c : Call) where
   rates : Rates 1 (shape .stages)
   rates = moving-rates gs (suc k) (stateOf (c .s)) moving
 
-  pub live : All Live (slice from to (shape .stages))
+  pub live : Each Live (slice from to (shape .stages))
   live = path-live shape from to rates (r .small) (omega (arith, r .soon))
 
   wanted-by : (j : ℕ) → j < c .s .curve .count → wantIn (c .wants) j ≡ wantOf gs (w .burst + w .rate) k j + weigh (passes f j) (f .burst)
@@ -349,10 +348,10 @@ module _ (t : Turn) where
   abbrev pub left-slots : ℕ
   left-slots = restOf 65536 (t .b) slots num
 
-  left-fits : All (λ u. line left-slots u < 2 ^ 63) (shape c .stages)
+  left-fits : Each (λ u. line left-slots u < 2 ^ 63) (shape c .stages)
   unfolding restOf
   left-fits =
-      all-weaken (λ u. line left-slots u ≤ 2 ^ 20 * (shape c .offset + left-slots)) (λ u. line left-slots u < 2 ^ 63) (shape c .stages)
+      each-map (λ u. line left-slots u ≤ 2 ^ 20 * (shape c .offset + left-slots)) (λ u. line left-slots u < 2 ^ 63) (shape c .stages)
       (λ u h. omega (arith, h, c .ready .soon, t .turning .down, c .ready .bounded, stepped .near)) (small-line (2 ^ 20) (shape c) left-slots (c .ready .small))
 
   -- what `is_past` asks
@@ -416,9 +415,9 @@ module _ (t : Turn) where
   behind-small : Small (2 ^ 20) (leftBy (shape c) (f c) gap)
   behind-small = small-next (2 ^ 20) (shape c) (f c) gap (c .ready .small)
 
-  leaves : All (Leaves (f c .burst) (f c .rate) gap) (slice (from c) (to c) (shape c .stages))
+  leaves : Each (Leaves (f c .burst) (f c .rate) gap) (slice (from c) (to c) (shape c .stages))
   leaves =
-      subst (λ (x : ℕ). All (Leaves (f c .burst) (f c .rate) x) (slice (from c) (to c) (shape c .stages))) gap-is
+      subst (λ (x : ℕ). Each (Leaves (f c .burst) (f c .rate) x) (slice (from c) (to c) (shape c .stages))) gap-is
       (path-leaves (shape c) (f c) (step-of d) (rates c)
       (subst (λ (x : ℕ). Rates 1 (leftBy (shape c) (f c) x .stages)) (sym gap-is) (moving-rates (gs c) (k c) behind behind-moving)) (c .ready .small)
       (omega (arith, gap-is, gap-small, c .ready .soon)))
@@ -486,10 +485,10 @@ module _ (o : On) where
   unfolding restOf
   rest-low = omega (arith, next-early, t .turning .down, q .ready .bounded, offset-is, slots-low)
 
-  rest-fits : All (λ u. line rest u < 2 ^ 63) (shapeOf (o .next .curve) .stages)
+  rest-fits : Each (λ u. line rest u < 2 ^ 63) (shapeOf (o .next .curve) .stages)
   rest-fits =
-      subst (λ (x : Shape). All (λ u. line rest u < 2 ^ 63) (x .stages)) (sym (o .holds .shape))
-      (all-weaken (λ u. line rest u ≤ 2 ^ 20 * (left .offset + rest)) (λ u. line rest u < 2 ^ 63) (left .stages)
+      subst (λ (x : Shape). Each (λ u. line rest u < 2 ^ 63) (x .stages)) (sym (o .holds .shape))
+      (each-map (λ u. line rest u ≤ 2 ^ 20 * (left .offset + rest)) (λ u. line rest u < 2 ^ 63) (left .stages)
       (λ u h. omega (arith, h, left-offset (shape q) (f q) (gap t), rest-low, slots-low, q .ready .stepped .near)) (small-line (2 ^ 20) left rest (behind-small t)))
 
   -- what `is_open` asks

@@ -4,8 +4,9 @@ use mathlib.Core.Path.{_≡_}
 use Prim.Native.Nat.{ℕ, _+_, _-_, _*_, _≤_, _<_, _^_}
 use lib.ListN.{length}
 use lib.Seq.{slice}
+use Rattle.ground.specs.Each.{Each}
 use Rattle.curves.specs.declared.Curve.{Curve}
-use Rattle.curves.specs.Curve.{All, line}
+use Rattle.curves.specs.Curve.{line}
 use Rattle.curves.specs.Held.{Leaves, shapeOf}
 use Rattle.tandem.specs.declared.Flow.{Flow}
 use Rattle.tree.specs.Ordered.{Placed}
@@ -16,7 +17,7 @@ use Rattle.climb.specs.declared.Branch.{Branch}
 pub record Takes (s : Branch) (g : Flow) (gap digit grid : ℕ) : Type 0 where
   pub few : s .curve .count ≤ 16
   pub placed : Placed (s .curve .count) g
-  pub leaves : All (Leaves (g .burst) (g .rate) gap) (slice (g .first - 1) (g .last) (shapeOf (s .curve) .stages))
+  pub leaves : Each (Leaves (g .burst) (g .rate) gap) (slice (g .first - 1) (g .last) (shapeOf (s .curve) .stages))
   pub slots : s .curve .offset + gap < 2 ^ 63
   pub number : s .number + digit * s .weight < 2 ^ 63
   pub weight : s .weight * grid < 2 ^ 63
@@ -28,4 +29,4 @@ pub record Asks (c : Curve) (g : Flow) (slots number best : ℕ) : Type 0 where
   pub placed : Placed (c .count) g
   pub near : slots < 2 ^ 42
   pub small : number < 65536
-  pub fits : All (λ s. line (restOf 65536 best slots number) s < 2 ^ 63) (shapeOf c .stages)
+  pub fits : Each (λ s. line (restOf 65536 best slots number) s < 2 ^ 63) (shapeOf c .stages)

@@ -5,7 +5,8 @@ ghost use Prim.Native.Nat.{ℕ, _+_, _-_, _*_, _≤_, _<_, _^_, min};
 ghost use mathlib.Core.Bool.{_||_, not};
 ghost use lib.Dec.{leb};
 ghost use lib.Seq.{slice};
-ghost use Rattle.curves.specs.Curve.{All, line, delay};
+ghost use Rattle.ground.specs.Each.{Each};
+ghost use Rattle.curves.specs.Curve.{line, delay};
 ghost use Rattle.curves.specs.Held.{InRange, Holds, shapeOf};
 ghost use Rattle.curves.specs.Part.{changed};
 ghost use Rattle.keys.specs.Left.{leftBy};
@@ -50,7 +51,7 @@ fn lowered(wants: [u64; 16], from: usize, to: usize, by: u64) -> [u64; 16]
 
 // Whether each stage from `from` up to before `to` has in `rest` slots what is wanted of it.
 fn gives(c: Curve, from: usize, to: usize, wants: [u64; 16], rest: u64) -> bool
-    requires { ⌜ (to ≤ c .count) × (c .count ≤ 16) × All (λ s. line rest s < 2 ^ 63) (shapeOf c .stages) ⌝ }
+    requires { ⌜ (to ≤ c .count) × (c .count ≤ 16) × Each (λ s. line rest s < 2 ^ 63) (shapeOf c .stages) ⌝ }
     ensures { λ r. ⌜ r ≡ gives (wantIn wants) rest from (slice from to (shapeOf c .stages)) ⌝ }
 {
     let mut i = from;

@@ -1,9 +1,8 @@
 -- What is made of a text, case by case: of what the writer gives on a page, and of what the text's reader gives.
 -- Assumes nothing.
-use Prim.Native.Nat.{ℕ, _+_, _≤_, _<_}
+use Prim.Native.Nat.{ℕ, _≤_, _<_}
 use mathlib.Core.Path.{_≡_, refl, sym, ap, _∙_}
-use mathlib.Core.List.{List, [], _++_}
-use mathlib.Core.Bool.{Bool, true, false, cond}
+use mathlib.Core.List.{List}
 use native.Mathlib.Omega.{arith}
 use lib.ListN.{length, take}
 use lib.Seq.{sets, length-sets}
@@ -19,7 +18,7 @@ use Rattle.sheet.specs.SizeLaws.{valid-bytes}
 use Rattle.sheet.specs.TripLaws.{gives-room}
 use Rattle.sheet.specs.Contract.{WriteSheet}
 use Rattle.text.specs.declared.Printed.{Printed}
-use Rattle.text.specs.declared.Printed.the-variants.{Answer, Refusal}
+use Rattle.text.specs.declared.Printed.the-variants.{Answer}
 use Rattle.text.specs.Lines.{bytesOf}
 use Rattle.text.specs.Contract.{HandOver}
 use Rattle.scribe.specs.declared.Scribed.{Scribed}
@@ -28,7 +27,7 @@ use Rattle.scribe.specs.declared.Slip.{Slip}
 use Rattle.scribe.specs.Text as scribe
 use Rattle.scribe.specs.TextLaws.{text-few}
 use Rattle.scribe.specs.Contract.{NumbersOfText}
-use Rattle.composing.specs.Composed.{longText, slipLine, Composed, made, wrong, byWriter, byText, composed, composedBytes, composedPrinted, composePage}
+use Rattle.composing.specs.Composed.{longText, slipLine, wrong, byWriter, byText, composed, composedBytes, composedPrinted, composePage}
 use Rattle.composing.specs.ComposedLaws.{composed-short, composed-bytes}
 use Rattle.composing.specs.Inside.{byList}
 use Rattle.composing.specs.Contract.{Compose}

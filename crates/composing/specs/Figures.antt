@@ -5,7 +5,7 @@ use mathlib.Core.Path.{_≡_, refl}
 use mathlib.Core.Logic.{inl}
 use native.Mathlib.Omega.{arith}
 use mathlib.Core.List.{List, [], _∷_, _++_}
-use Rattle.numbers.specs.Seven.{numberAt, encode}
+use Rattle.numbers.specs.Seven.{numberAt}
 use Rattle.numbers.specs.SevenLaws.{Bytes}
 use Rattle.fields.specs.declared.Why.the-variants.{Outside}
 use Rattle.fields.specs.Rule.{ruleAt, fieldAt, seenAfter}

@@ -2,15 +2,14 @@
 -- rule whose range is told does not admit the number.
 -- Assumes nothing.
 use Prim.Native.Nat.{ℕ, _<_}
-use mathlib.Core.Path.{_≡_, ap}
+use mathlib.Core.Path.{_≡_}
 use mathlib.Core.Logic.{_⊎_, inl, inr}
 use mathlib.Core.Bool.{false}
 use mathlib.Core.List.{List, _++_}
 use lib.ListN.{length, getD}
-use Rattle.fields.specs.declared.User.the-variants.{Writer}
 use Rattle.fields.specs.declared.Why.{Why}
 use Rattle.fields.specs.declared.Why.the-variants.{Outside, OffPath}
-use Rattle.fields.specs.Rule.{fieldRule, allowed}
+use Rattle.fields.specs.Rule.{allowed}
 use Rattle.fields.specs.PlaceLaws.{place-of, field-here}
 use Rattle.sheet.specs.Sheet.{fail, listOf}
 use Rattle.sheet.specs.Valid.{edition, serverCount, flowCount}

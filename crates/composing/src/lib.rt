@@ -1,7 +1,7 @@
 // A sheet out of its text: its bytes, or one line that says what is wrong and where.
 ghost use mathlib.Core.Path.{_≡_};
 ghost use Prim.Native.Nat.{_+_, _-_, _≤_};
-ghost use lib.ListN.{length, getD};
+ghost use lib.ListN.{length};
 ghost use lib.Seq.{sets};
 ghost use Rattle.text.specs.Contract.{Put};
 ghost use Rattle.composing.specs.Composed.{slipLine, lineOf, placeText, ruleIn, outsideLine, faultEnd, faultText, complaint, composed, composedBytes, composedPrinted, composePage};

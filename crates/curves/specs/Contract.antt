@@ -6,7 +6,7 @@ use Prim.Native.Nat.{ℕ, max}
 use lib.ListN.{drop, replicate}
 use Rattle.curves.specs.declared.Stage.{Stage}
 use Rattle.curves.specs.declared.Curve.{Curve}
-use Rattle.curves.specs.Curve.{neutral, server, joined, after, remainder, catchUp, leastWait, delay}
+use Rattle.curves.specs.Curve.{neutral, joined, after, remainder, catchUp, leastWait, delay}
 use Rattle.curves.specs.Held.{shapeOf, spare, held, Holds, blank}
 use Rattle.curves.specs.Part.{lagIn, leftIn}
 
@@ -26,13 +26,6 @@ pub record None (r : Curve) : Type 0 where
   pub is : r ≡ held neutral (replicate 16 blank)
   -- the curve that the record holds
   pub holds : Holds r neutral
-
--- `server`
-pub record Server (R T : ℕ) (r : Curve) : Type 0 where
-  -- "A server is offset T with one stage (0, R)."
-  pub is : r ≡ held (server R T) (replicate 15 blank)
-  -- the curve that the record holds
-  pub holds : Holds r (server R T)
 
 -- `join`
 pub record Join (c d r : Curve) : Type 0 where

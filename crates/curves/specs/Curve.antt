@@ -5,6 +5,7 @@ use mathlib.Core.Path.{_≡_}
 use mathlib.Core.List.{List, [], _∷_, _++_, map}
 use mathlib.Core.Logic.{_⊎_}
 use Prim.Native.Nat.{ℕ, _+_, _-_, _*_, _/_, _≤_, _<_, min, max}
+use Rattle.ground.specs.Each.{Each}
 use Rattle.curves.specs.declared.Stage.{Stage}
 use Rattle.curves.specs.Slots.{zeroUpTo}
 
@@ -72,18 +73,13 @@ lateness σ ρ s = ceil (σ + ρ - s .burst - s .rate) (s .rate)
 unfoldable pub delay : Shape → ℕ → ℕ → ℕ
 delay c σ ρ = c .offset + greatest (lateness σ ρ) (c .stages)
 
--- P of each stage
-abbrev pub All : (Stage → Type 0) → List Stage → Type 0
-All P [] = Unit {0}
-All P (s ∷ l) = P s × All P l
-
 -- every stage's rate is at least ρ
 abbrev pub Rates : ℕ → List Stage → Type 0
-Rates ρ l = All (λ s. ρ ≤ s .rate) l
+Rates ρ l = Each (λ s. ρ ≤ s .rate) l
 
 -- v is at most each stage, x slots after the offset
 abbrev pub Below : ℕ → ℕ → List Stage → Type 0
-Below v x l = All (λ s. v ≤ line x s) l
+Below v x l = Each (λ s. v ≤ line x s) l
 
 -- v is at most the curve's value at t, where a curve without stages has no limit after its offset
 abbrev pub Under : Shape → ℕ → ℕ → Type 0

@@ -7,12 +7,13 @@ use Prim.Native.Nat.{ℕ, _+_, _-_, _*_, _≤_, _<_}
 use native.Mathlib.Nat.{mul-zero, zero-add}
 use native.Mathlib.Omega.{arith}
 use lib.ListN.{length}
+use Rattle.ground.specs.EachLaws.{each-both, each-map}
 use Rattle.curves.specs.declared.Stage.{Stage}
 use Rattle.curves.specs.Slots.{serve}
 use Rattle.curves.specs.Curve.{Shape, line, leastLine, valueAt, server, catchUp, leastWait, Rates, Below, Under}
 use Rattle.ground.specs.OrderLaws.{le-or-lt}
 use Rattle.curves.specs.SlotsLaws.{zero-before, zero-after}
-use Rattle.curves.specs.StageLaws.{all-weaken, all-both, greatest-le, le-greatest, catch-up-enough, catch-up-least, catch-up-le}
+use Rattle.curves.specs.StageLaws.{greatest-le, le-greatest, catch-up-enough, catch-up-least, catch-up-le}
 
 pub value-before : (c : Shape) (t : ℕ) → t ≤ c .offset → valueAt c t ≡ 0
 unfolding valueAt
@@ -66,14 +67,14 @@ unfolding leastWait
 wait-le c σ p =
     omega (
       arith,
-      greatest-le (catchUp σ) σ (c .stages) (all-weaken (λ s. 1 ≤ s .rate) (λ s. catchUp σ s ≤ σ) (c .stages) (catch-up-le σ) p),
+      greatest-le (catchUp σ) σ (c .stages) (each-map (λ s. 1 ≤ s .rate) (λ s. catchUp σ s ≤ σ) (c .stages) (catch-up-le σ) p),
     )
 
 pub wait-enough : (c : Shape) (σ θ : ℕ) → Rates 1 (c .stages) → leastWait c σ ≤ θ → Below σ (θ - c .offset) (c .stages)
 unfolding leastWait
 wait-enough c σ θ p h =
     let w : ℕ = θ - c .offset in
-    all-both (λ s. 1 ≤ s .rate) (λ s. catchUp σ s ≤ w) (λ s. σ ≤ line w s) (c .stages) (catch-up-enough σ w) p
+    each-both (λ s. 1 ≤ s .rate) (λ s. catchUp σ s ≤ w) (λ s. σ ≤ line w s) (c .stages) (catch-up-enough σ w) p
     (le-greatest (catchUp σ) w (c .stages) (omega arith))
 
 pub wait-least : (c : Shape) (σ θ : ℕ) → Rates 1 (c .stages) → c .offset ≤ θ → Below σ (θ - c .offset) (c .stages) → leastWait c σ ≤ θ
@@ -83,5 +84,5 @@ wait-least c σ θ p h k =
     omega (
       arith,
       greatest-le (catchUp σ) w (c .stages)
-          (all-both (λ s. 1 ≤ s .rate) (λ s. σ ≤ line w s) (λ s. catchUp σ s ≤ w) (c .stages) (catch-up-least σ w) p k),
+          (each-both (λ s. 1 ≤ s .rate) (λ s. σ ≤ line w s) (λ s. catchUp σ s ≤ w) (c .stages) (catch-up-least σ w) p k),
     )

@@ -7,11 +7,12 @@ use Prim.Native.Nat.{ℕ, zero, suc, _+_, _*_, _-_, _≤_, _<_}
 use native.Mathlib.Nat.{mul-le-mul-right}
 use native.Mathlib.Omega.{arith}
 use lib.ListN.{length}
+use Rattle.ground.specs.EachLaws.{each-both, each-map}
 use Rattle.curves.specs.declared.Stage.{Stage}
 use Rattle.curves.specs.Slots.{bucket, Covers, Least}
 use Rattle.curves.specs.Curve.{Shape, line, leastLine, valueAt, catchUp, leastWait, lateness, delay, Rates, Below, Under}
 use Rattle.ground.specs.OrderLaws.{le-or-lt}
-use Rattle.curves.specs.StageLaws.{all-weaken, all-both, greatest-pred, lateness-is, below-mono}
+use Rattle.curves.specs.StageLaws.{greatest-pred, lateness-is, below-mono}
 use Rattle.curves.specs.CurveLaws.{value-before, value-after, below-of-least, value-of-under, wait-after-offset, wait-le, wait-enough, wait-least}
 
 -- the delay lies one slot before the least wait for what the bucket may send in its first slot, but not before the offset
@@ -19,7 +20,7 @@ pub delay-by-wait : (c : Shape) (σ ρ : ℕ) → Rates 1 (c .stages) → delay 
 unfolding delay leastWait
 delay-by-wait c σ ρ p =
     let e = greatest-pred (lateness σ ρ) (catchUp (σ + ρ)) (c .stages)
-    (all-weaken (λ s. 1 ≤ s .rate) (λ s. lateness σ ρ s ≡ catchUp (σ + ρ) s - 1) (c .stages) (lateness-is σ ρ) p) in
+    (each-map (λ s. 1 ≤ s .rate) (λ s. lateness σ ρ s ≡ catchUp (σ + ρ) s - 1) (c .stages) (lateness-is σ ρ) p) in
     omega arith
 
 pub delay-after-offset : (c : Shape) (σ ρ : ℕ) → c .offset ≤ delay c σ ρ
@@ -32,7 +33,7 @@ delay-le c σ ρ p = omega (arith, delay-by-wait c σ ρ p, wait-le c (σ + ρ) 
 -- after the first slot the bucket rises no faster than any stage
 below-later : (σ ρ x y : ℕ) (l : List Stage) → Below (σ + ρ) x l → Rates ρ l → Below (σ + ρ + ρ * y) (x + y) l
 below-later σ ρ x y l h q =
-    all-both (λ s. σ + ρ ≤ line x s) (λ s. ρ ≤ s .rate) (λ s. σ + ρ + ρ * y ≤ line (x + y) s) l
+    each-both (λ s. σ + ρ ≤ line x s) (λ s. ρ ≤ s .rate) (λ s. σ + ρ + ρ * y ≤ line (x + y) s) l
     (λ s a b. omega (arith, mul-le-mul-right y b)) h q
 
 -- the bucket at y is under the curve at delay + y

@@ -4,9 +4,10 @@ use mathlib.Core.Path.{_≡_}
 use mathlib.Core.List.{List, _++_}
 use Prim.Native.Nat.{ℕ, _-_, _≤_, _<_, _^_}
 use lib.ListN.{length, take, drop}
+use Rattle.ground.specs.Each.{Each}
 use Rattle.curves.specs.declared.Stage.{Stage}
 use Rattle.curves.specs.declared.Curve.{Curve}
-use Rattle.curves.specs.Curve.{Shape, All, line}
+use Rattle.curves.specs.Curve.{Shape, line}
 
 -- the curve that a record holds: its offset and the first `count` of its stages
 abbrev pub shapeOf : Curve → Shape
@@ -47,10 +48,10 @@ pub record Leaves (σ ρ x : ℕ) (s : Stage) : Type 0 where
 pub record InRange (c : Curve) : Type 0 where
   pub few : c .count ≤ 16
   pub near : c .offset < 2 ^ 62
-  pub live : All Live (shapeOf c .stages)
+  pub live : Each Live (shapeOf c .stages)
 
 -- a record from which a group (σ, ρ) can be taken with wait θ
 pub record Leaving (c : Curve) (σ ρ θ : ℕ) : Type 0 where
   pub few : c .count ≤ 16
   pub late : c .offset ≤ θ
-  pub leaves : All (Leaves σ ρ (θ - c .offset)) (shapeOf c .stages)
+  pub leaves : Each (Leaves σ ρ (θ - c .offset)) (shapeOf c .stages)

@@ -8,11 +8,12 @@ use native.Mathlib.Numerals.{add-one}
 use native.Mathlib.Omega.{arith}
 use lib.ListN.{length, length-append, length-drop, set, take, drop}
 use lib.Seq.{paste, drop-drop, length-paste-head, length-take-le, take-at}
+use Rattle.ground.specs.EachLaws.{each-both, each-map}
+use Rattle.ground.specs.Each.{Each}
 use Rattle.curves.specs.declared.Stage.{Stage}
 use Rattle.curves.specs.declared.Curve.{Curve}
-use Rattle.curves.specs.Curve.{Shape, line, server, joined, remainder, leastWait, delay, All, Rates}
+use Rattle.curves.specs.Curve.{Shape, line, server, joined, remainder, leastWait, delay, Rates}
 use Rattle.curves.specs.Held.{shapeOf, spare, held, Holds, Live, Leaves, InRange, Leaving}
-use Rattle.curves.specs.StageLaws.{all-weaken, all-both}
 use Rattle.curves.specs.CurveLaws.{wait-after-offset, wait-enough}
 
 -- what is held can be read back
@@ -39,20 +40,20 @@ take-set (y ∷ l) zero x h = refl
 take-set (y ∷ l) (suc n) x h = ap (λ (m : List _). y ∷ m) (take-set l n x (omega arith))
 
 -- a stage in range serves at least one byte a slot
-pub live-rates : (l : List Stage) → All Live l → Rates 1 l
-live-rates l h = all-weaken Live (λ s. 1 ≤ s .rate) l (λ s k. k .moves) h
+pub live-rates : (l : List Stage) → Each Live l → Rates 1 l
+live-rates l h = each-map Live (λ s. 1 ≤ s .rate) l (λ s k. k .moves) h
 
 -- a group can be taken out of a curve in range after its least wait, if its rate fits and the wait is not too long
-pub leaves-after-wait : (c : Shape) (σ ρ θ : ℕ) → leastWait c σ ≤ θ → θ < 2 ^ 42 → All Live (c .stages) → Rates ρ (c .stages)
-    → All (Leaves σ ρ (θ - c .offset)) (c .stages)
+pub leaves-after-wait : (c : Shape) (σ ρ θ : ℕ) → leastWait c σ ≤ θ → θ < 2 ^ 42 → Each Live (c .stages) → Rates ρ (c .stages)
+    → Each (Leaves σ ρ (θ - c .offset)) (c .stages)
 leaves-after-wait c σ ρ θ h k l q =
-    all-both (λ s. σ ≤ line x s) (λ s. Live s × (ρ ≤ s .rate)) (Leaves σ ρ x) (c .stages) each (wait-enough c σ θ (live-rates (c .stages) l) h) both
+    each-both (λ s. σ ≤ line x s) (λ s. Live s × (ρ ≤ s .rate)) (Leaves σ ρ x) (c .stages) each (wait-enough c σ θ (live-rates (c .stages) l) h) both
   where
     x : ℕ
     x = θ - c .offset
 
-    both : All (λ s. Live s × (ρ ≤ s .rate)) (c .stages)
-    both = all-both Live (λ s. ρ ≤ s .rate) (λ s. Live s × (ρ ≤ s .rate)) (c .stages) (λ s a b. (a, b)) l q
+    both : Each (λ s. Live s × (ρ ≤ s .rate)) (c .stages)
+    both = each-both Live (λ s. ρ ≤ s .rate) (λ s. Live s × (ρ ≤ s .rate)) (c .stages) (λ s a b. (a, b)) l q
 
     each : (s : Stage) → σ ≤ line x s → Live s × (ρ ≤ s .rate) → Leaves σ ρ x s
     each s a b =
@@ -62,14 +63,14 @@ leaves-after-wait c σ ρ θ h k l q =
 
 -- what is asked of a record follows from the curve that it holds
 
-pub holds-all : {r : Curve} {c : Shape} (P : Stage → Type 0) → Holds r c → All P (c .stages) → All P (shapeOf r .stages)
-holds-all P h k = subst (λ (a : Shape). All P (a .stages)) (sym (h .shape)) k
+pub holds-all : {r : Curve} {c : Shape} (P : Stage → Type 0) → Holds r c → Each P (c .stages) → Each P (shapeOf r .stages)
+holds-all P h k = subst (λ (a : Shape). Each P (a .stages)) (sym (h .shape)) k
 
-pub holds-in-range : {r : Curve} {c : Shape} → Holds r c → length (c .stages) ≤ 16 → c .offset < 2 ^ 62 → All Live (c .stages) → InRange r
+pub holds-in-range : {r : Curve} {c : Shape} → Holds r c → length (c .stages) ≤ 16 → c .offset < 2 ^ 62 → Each Live (c .stages) → InRange r
 holds-in-range h n o l = record { few = omega (arith, h .count); near = omega (arith, h .offset); live = holds-all Live h l }
 
 pub holds-leaving : {r : Curve} {c : Shape} (σ ρ θ : ℕ) → Holds r c → length (c .stages) ≤ 16 → leastWait c σ ≤ θ → θ < 2 ^ 42
-    → All Live (c .stages) → Rates ρ (c .stages) → Leaving r σ ρ θ
+    → Each Live (c .stages) → Rates ρ (c .stages) → Leaving r σ ρ θ
 holds-leaving {r} {c} σ ρ θ h n w k l q =
     record {
       few = omega (arith, h .count);

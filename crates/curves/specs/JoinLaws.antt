@@ -7,12 +7,14 @@ use Prim.Native.Nat.{ℕ, _+_, _*_, _-_, _≤_, _<_, min}
 use native.Mathlib.Nat.{mul-le-mul-right, le-antisymm, add-assoc, add-zero, zero-add}
 use native.Mathlib.Omega.{arith}
 use lib.ListN.{length, length-append}
+use Rattle.ground.specs.EachLaws.{each-append, each-back, each-front}
+use Rattle.ground.specs.Each.{Each}
 use Rattle.curves.specs.declared.Stage.{Stage}
 use Rattle.curves.specs.Slots.{lowest, conv}
-use Rattle.curves.specs.Curve.{Shape, line, leastLine, valueAt, neutral, joined, All, Rates, Below, Under}
+use Rattle.curves.specs.Curve.{Shape, line, leastLine, valueAt, neutral, joined, Rates, Below, Under}
 use Rattle.ground.specs.OrderLaws.{le-or-lt}
 use Rattle.curves.specs.SlotsLaws.{lowest-le, le-lowest}
-use Rattle.curves.specs.StageLaws.{all-append, all-front, all-back, below-mono}
+use Rattle.curves.specs.StageLaws.{below-mono}
 use Rattle.curves.specs.CurveLaws.{value-before, value-after, under-of-value, value-of-under}
 
 pub joined-neutral : (c : Shape) → joined c neutral ≡ c
@@ -32,9 +34,9 @@ unfolding joined
 joined-length c d = length-append (c .stages) (d .stages)
 
 -- what holds of each stage of both holds of each stage of the joined curve
-pub joined-all : (P : Stage → Type 0) (c d : Shape) → All P (c .stages) → All P (d .stages) → All P (joined c d .stages)
+pub joined-all : (P : Stage → Type 0) (c d : Shape) → Each P (c .stages) → Each P (d .stages) → Each P (joined c d .stages)
 unfolding joined
-joined-all P c d h k = all-append P (c .stages) (d .stages) h k
+joined-all P c d h k = each-append P (c .stages) (d .stages) h k
 
 pub joined-rates : (ρ : ℕ) (c d : Shape) → Rates ρ (c .stages) → Rates ρ (d .stages) → Rates ρ (joined c d .stages)
 joined-rates ρ c d h k = joined-all (λ s. ρ ≤ s .rate) c d h k
@@ -83,10 +85,10 @@ joined-split c d x y v (inr h) = go (le-or-lt x (c .offset)) (le-or-lt y (d .off
     z = x + y - (c .offset + d .offset)
 
     l : Below v z (c .stages)
-    l = all-front (λ s. v ≤ line z s) (c .stages) (d .stages) (h .1)
+    l = each-front (λ s. v ≤ line z s) (c .stages) (d .stages) (h .1)
 
     m : Below v z (d .stages)
-    m = all-back (λ s. v ≤ line z s) (c .stages) (d .stages) (h .1)
+    m = each-back (λ s. v ≤ line z s) (c .stages) (d .stages) (h .1)
 
     go : (x ≤ c .offset) ⊎ (c .offset < x) → (y ≤ d .offset) ⊎ (d .offset < y) → (p q : ℕ) × (v ≤ p + q) × Under c x p × Under d y q
     go (inl a) e = (0, v, omega arith, inl refl, inr (omega (arith, h .0), below-mono v v z (y - d .offset) (d .stages) (omega arith) (omega arith) m))

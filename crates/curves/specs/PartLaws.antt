@@ -7,10 +7,12 @@ use Prim.Native.Nat.{ℕ, zero, suc, _+_, _-_, _≤_, _<_}
 use native.Mathlib.Omega.{arith}
 use lib.ListN.{length, take, drop, getD, set, length-take, take-append-drop}
 use lib.Seq.{slice, slice-cons, getD-take, take-all, length-take-le}
+use Rattle.ground.specs.EachLaws.{each-map}
+use Rattle.ground.specs.Each.{Each}
 use Rattle.curves.specs.declared.Stage.{Stage}
 use Rattle.curves.specs.declared.Curve.{Curve}
-use Rattle.curves.specs.Curve.{Shape, All, Rates, after, catchUp, remainder, leastWait}
-use Rattle.curves.specs.StageLaws.{all-weaken, greatest-le, catch-up-le}
+use Rattle.curves.specs.Curve.{Shape, Rates, after, catchUp, remainder, leastWait}
+use Rattle.curves.specs.StageLaws.{greatest-le, catch-up-le}
 use Rattle.curves.specs.Held.{shapeOf, spare, held, blank}
 use Rattle.curves.specs.Part.{changed, lagIn, leftIn}
 
@@ -45,7 +47,7 @@ changed-length f zero (suc b) (x ∷ l) = ap suc (changed-length f zero b l)
 changed-length f (suc a) zero (x ∷ l) = refl
 changed-length f (suc a) (suc b) (x ∷ l) = ap suc (changed-length f a b l)
 
-pub all-slice : (P : Stage → Type 0) (a b : ℕ) (l : List Stage) (j : ℕ) (z : Stage) → All P (slice a b l) → a ≤ j → j < b → j < length l → P (getD l j z)
+pub all-slice : (P : Stage → Type 0) (a b : ℕ) (l : List Stage) (j : ℕ) (z : Stage) → Each P (slice a b l) → a ≤ j → j < b → j < length l → P (getD l j z)
 all-slice P a zero l j z h p q r = absurd (omega arith)
 all-slice P a (suc b) [] j z h p q r = absurd (omega arith)
 all-slice P zero (suc b) (s ∷ l) zero z h p q r = h .0
@@ -126,14 +128,14 @@ left-whole c σ ρ θ h =
     rw (e, changed-all (after σ ρ (θ - c .offset)) (c .count) (take (c .count) (c .stages)) (omega (arith, length-take (c .count) (c .stages))))
 
 -- what holds of all stages holds of the part with all
-pub all-whole : (P : Stage → Type 0) (c : Curve) → All P (shapeOf c .stages) → All P (slice 0 (c .count) (shapeOf c .stages))
+pub all-whole : (P : Stage → Type 0) (c : Curve) → Each P (shapeOf c .stages) → Each P (slice 0 (c .count) (shapeOf c .stages))
 all-whole P c h = rw (whole-part c) h
 
 -- the slots until stages that serve have σ bytes are at most σ
 pub lag-le : (c : Shape) (a b σ : ℕ) → Rates 1 (slice a b (c .stages)) → lagIn c a b σ ≤ σ
 lag-le c a b σ h =
     greatest-le (catchUp σ) σ (slice a b (c .stages))
-    (all-weaken (λ s. 1 ≤ s .rate) (λ s. catchUp σ s ≤ σ) (slice a b (c .stages)) (λ s k. catch-up-le σ s k) h)
+    (each-map (λ s. 1 ≤ s .rate) (λ s. catchUp σ s ≤ σ) (slice a b (c .stages)) (λ s k. catch-up-le σ s k) h)
 
 -- the next of a part of the first n
 pub next-slice : (l : List Stage) (n i to : ℕ) → i < to → to ≤ n → n ≤ length l → slice i to (take n l) ≡ getD l i blank ∷ slice (suc i) to (take n l)

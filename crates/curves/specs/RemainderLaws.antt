@@ -7,12 +7,14 @@ use Prim.Native.Nat.{ℕ, _+_, _*_, _-_, _≤_, _<_}
 use native.Mathlib.Nat.{sub-add-cancel}
 use native.Mathlib.Omega.{arith}
 use lib.ListN.{length, length-map}
+use Rattle.ground.specs.EachLaws.{each-map, each-mapped}
+use Rattle.ground.specs.Each.{Each}
 use Rattle.curves.specs.declared.Stage.{Stage}
 use Rattle.curves.specs.Slots.{left}
-use Rattle.curves.specs.Curve.{Shape, line, leastLine, valueAt, leastWait, after, remainder, All, Rates, Below, Under}
+use Rattle.curves.specs.Curve.{Shape, line, leastLine, valueAt, leastWait, after, remainder, Rates, Below, Under}
 use Rattle.ground.specs.OrderLaws.{le-or-lt}
 use Rattle.curves.specs.SlotsLaws.{zero-before, zero-after}
-use Rattle.curves.specs.StageLaws.{all-map, below-mono}
+use Rattle.curves.specs.StageLaws.{below-mono}
 use Rattle.curves.specs.CurveLaws.{value-before, value-after, wait-after-offset, wait-enough}
 
 pub remainder-offset : (c : Shape) (σ ρ θ : ℕ) → remainder c σ ρ θ .offset ≡ θ
@@ -25,9 +27,9 @@ remainder-length c σ ρ θ = length-map (c .stages) (after σ ρ (θ - c .offse
 
 -- what the group leaves of each stage, if P of the stage gives Q of that
 pub remainder-all : (P Q : Stage → Type 0) (c : Shape) (σ ρ θ : ℕ) → ((s : Stage) → P s → Q (after σ ρ (θ - c .offset) s))
-    → All P (c .stages) → All Q (remainder c σ ρ θ .stages)
+    → Each P (c .stages) → Each Q (remainder c σ ρ θ .stages)
 unfolding remainder
-remainder-all P Q c σ ρ θ f h = all-map P Q (after σ ρ (θ - c .offset)) (c .stages) f h
+remainder-all P Q c σ ρ θ f h = each-mapped Q (after σ ρ (θ - c .offset)) (c .stages) (each-map P (λ s. Q (after σ ρ (θ - c .offset) s)) (c .stages) f h)
 
 -- a stage that had room for ρ more keeps that room
 pub remainder-rates : (q : ℕ) (c : Shape) (σ ρ θ : ℕ) → Rates (q + ρ) (c .stages) → Rates q (remainder c σ ρ θ .stages)

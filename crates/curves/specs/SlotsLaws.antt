@@ -1,14 +1,12 @@
--- Laws of the least of finitely many numbers, of a function that is 0 up to a slot, and of the least number with a property.
+-- Laws of the least of finitely many numbers, of a function that is 0 up to a slot, of the least number with a property, and of a bucket.
 -- Assumes nothing.
-use mathlib.Core.Path.{_≡_}
+use mathlib.Core.Path.{_≡_, refl}
 use mathlib.Core.Logic.{_⊎_, inl, inr}
-use Prim.Native.Nat.{ℕ, zero, suc, _≤_, _<_, min}
-use native.Mathlib.Nat.{lt-of-not-le}
-use native.Mathlib.Decide.{decLe}
+use Prim.Native.Nat.{ℕ, zero, suc, _+_, _*_, _≤_, _<_, min}
 use native.Mathlib.Omega.{arith}
 use borrow.Author.Tests.{le-leb, lt-leb}
 use Rattle.ground.specs.OrderLaws.{le-or-lt}
-use Rattle.curves.specs.Slots.{lowest, zeroUpTo, Least}
+use Rattle.curves.specs.Slots.{lowest, bucket, zeroUpTo, Least}
 
 pub lowest-le : (n s : ℕ) (f : ℕ → ℕ) → s ≤ n → lowest n f ≤ f s
 unfolding lowest
@@ -35,3 +33,9 @@ zero-after D t v h = rw (lt-leb t D h)
 -- "the least d such that": there is no other
 pub least-unique : (P : ℕ → Type 0) (d e : ℕ) → Least P d → Least P e → d ≡ e
 least-unique P d e h k = omega (arith, h .least e (k .holds), k .least d (h .holds))
+
+-- a bucket over one slot or more
+pub bucket-after : (σ ρ t : ℕ) → 0 < t → bucket σ ρ t ≡ σ + ρ * t
+unfolding bucket
+bucket-after σ ρ zero h = absurd (omega arith)
+bucket-after σ ρ (suc t) h = refl

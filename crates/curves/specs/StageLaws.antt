@@ -1,69 +1,39 @@
 -- Laws of stages: what holds of each stage of a list, quotients rounded up, and how many slots a stage needs to have a number of bytes.
 -- Assumes nothing.
 use mathlib.Core.Path.{_≡_, refl}
-use mathlib.Core.List.{List, [], _∷_, _++_, map}
+use mathlib.Core.List.{List, [], _∷_}
 use mathlib.Core.Logic.{_⊎_, inl, inr}
 use Prim.Native.Nat.{ℕ, zero, suc, _+_, _-_, _*_, _≤_, _<_}
-use native.Mathlib.Nat.{mul-le-mul-left, mul-le-mul-right, mul-sub, le-antisymm, div-lt-iff-lt-mul, lt-div-mul-add}
+use native.Mathlib.Nat.{mul-le-mul-left, mul-le-mul-right, mul-sub, le-antisymm, div-zero, div-lt-iff-lt-mul, lt-div-mul-add}
 use native.Mathlib.Omega.{arith}
-use lib.ListN.{length, take, getD}
+use Rattle.ground.specs.EachLaws.{each-map}
+use Rattle.ground.specs.Each.{Each}
 use Rattle.curves.specs.declared.Stage.{Stage}
-use Rattle.curves.specs.Curve.{line, ceil, greatest, catchUp, lateness, All, Rates, Below}
+use Rattle.curves.specs.Curve.{line, ceil, greatest, catchUp, lateness, Rates, Below}
 use Rattle.ground.specs.OrderLaws.{le-or-lt}
 
 -- what holds of each stage
 
-pub all-weaken : (P Q : Stage → Type 0) (l : List Stage) → ((s : Stage) → P s → Q s) → All P l → All Q l
-all-weaken P Q [] f h = tt
-all-weaken P Q (s ∷ l) f h = (f s (h .0), all-weaken P Q l f (h .1))
-
-pub all-both : (P Q R : Stage → Type 0) (l : List Stage) → ((s : Stage) → P s → Q s → R s) → All P l → All Q l → All R l
-all-both P Q R [] f h k = tt
-all-both P Q R (s ∷ l) f h k = (f s (h .0) (k .0), all-both P Q R l f (h .1) (k .1))
-
-pub all-append : (P : Stage → Type 0) (l m : List Stage) → All P l → All P m → All P (l ++ m)
-all-append P [] m h k = k
-all-append P (s ∷ l) m h k = (h .0, all-append P l m (h .1) k)
-
-pub all-front : (P : Stage → Type 0) (l m : List Stage) → All P (l ++ m) → All P l
-all-front P [] m h = tt
-all-front P (s ∷ l) m h = (h .0, all-front P l m (h .1))
-
-pub all-back : (P : Stage → Type 0) (l m : List Stage) → All P (l ++ m) → All P m
-all-back P [] m h = h
-all-back P (s ∷ l) m h = all-back P l m (h .1)
-
-pub all-map : (P Q : Stage → Type 0) (f : Stage → Stage) (l : List Stage) → ((s : Stage) → P s → Q (f s)) → All P l → All Q (map f l)
-all-map P Q f [] g h = tt
-all-map P Q f (s ∷ l) g h = (g s (h .0), all-map P Q f l g (h .1))
-
--- the stage at a place of the first n
-pub all-at : (P : Stage → Type 0) (l : List Stage) (n i : ℕ) (d : Stage) → All P (take n l) → i < n → i < length l → P (getD l i d)
-all-at P [] n i d h p q = absurd (omega arith)
-all-at P (s ∷ l) zero i d h p q = absurd (omega arith)
-all-at P (s ∷ l) (suc n) zero d h p q = h .0
-all-at P (s ∷ l) (suc n) (suc i) d h p q = all-at P l n i d (h .1) (omega arith) (omega arith)
-
 pub rates-weaken : (ρ q : ℕ) (l : List Stage) → ρ ≤ q → Rates q l → Rates ρ l
-rates-weaken ρ q l k h = all-weaken (λ s. q ≤ s .rate) (λ s. ρ ≤ s .rate) l (λ s p. omega arith) h
+rates-weaken ρ q l k h = each-map (λ s. q ≤ s .rate) (λ s. ρ ≤ s .rate) l (λ s p. omega arith) h
 
 pub below-mono : (v w x y : ℕ) (l : List Stage) → w ≤ v → x ≤ y → Below v x l → Below w y l
-below-mono v w x y l p q h = all-weaken (λ s. v ≤ line x s) (λ s. w ≤ line y s) l (λ s k. omega (arith, mul-le-mul-left (s .rate) q)) h
+below-mono v w x y l p q h = each-map (λ s. v ≤ line x s) (λ s. w ≤ line y s) l (λ s k. omega (arith, mul-le-mul-left (s .rate) q)) h
 
 -- the greatest over the stages
 
-pub greatest-le : (f : Stage → ℕ) (w : ℕ) (l : List Stage) → All (λ s. f s ≤ w) l → greatest f l ≤ w
+pub greatest-le : (f : Stage → ℕ) (w : ℕ) (l : List Stage) → Each (λ s. f s ≤ w) l → greatest f l ≤ w
 unfolding greatest
 greatest-le f w [] h = omega arith
 greatest-le f w (s ∷ l) h = omega (arith, h .0, greatest-le f w l (h .1))
 
-pub le-greatest : (f : Stage → ℕ) (w : ℕ) (l : List Stage) → greatest f l ≤ w → All (λ s. f s ≤ w) l
+pub le-greatest : (f : Stage → ℕ) (w : ℕ) (l : List Stage) → greatest f l ≤ w → Each (λ s. f s ≤ w) l
 unfolding greatest
 le-greatest f w [] h = tt
 le-greatest f w (s ∷ l) h = (omega arith, le-greatest f w l (omega arith))
 
 -- if one function is one less than another at each stage, so are the greatest values
-pub greatest-pred : (f g : Stage → ℕ) (l : List Stage) → All (λ s. f s ≡ g s - 1) l → greatest f l ≡ greatest g l - 1
+pub greatest-pred : (f g : Stage → ℕ) (l : List Stage) → Each (λ s. f s ≡ g s - 1) l → greatest f l ≡ greatest g l - 1
 unfolding greatest
 greatest-pred f g [] h = refl
 greatest-pred f g (s ∷ l) h = omega (arith, h .0, greatest-pred f g l (h .1))
@@ -82,6 +52,16 @@ ceil-least a r w h k =
     omega arith
 
 -- r less to divide is one slot less
+-- no more slots than bytes, whatever the rate
+pub ceil-le : (a r : ℕ) → ceil a r ≤ a
+unfolding ceil
+ceil-le a zero = omega (arith, div-zero (a + (zero - 1)))
+ceil-le a (suc r) =
+    let q : a * 1 ≤ a * suc r = mul-le-mul-left a (omega arith) in
+    let x : a + (suc r - 1) < suc a * suc r = omega arith in
+    let y = div-lt-iff-lt-mul {k = suc r} {x = a + (suc r - 1)} {y = suc a} (omega arith) .1 x in
+    omega arith
+
 pub ceil-pred : (a r : ℕ) → 1 ≤ r → ceil (a - r) r ≡ ceil a r - 1
 ceil-pred a r h = le-antisymm low high
   where

@@ -4,7 +4,7 @@ use mathlib.Core.Path.{_≡_, sym, _∙_}
 use Prim.Native.Nat.{ℕ}
 use Rattle.curves.specs.declared.Stage.{Stage}
 use Rattle.curves.specs.declared.Curve.{Curve}
-use Rattle.curves.specs.Contract.{CatchUp, After, None, Server, Join, Lag, Left, LeastWait, Remainder, Delay}
+use Rattle.curves.specs.Contract.{CatchUp, After, None, Join, Lag, Left, LeastWait, Remainder, Delay}
 
 pub catch-up-unique : (s : Stage) (σ most : ℕ) (a b : ℕ) → CatchUp s σ most a → CatchUp s σ most b → a ≡ b
 catch-up-unique s σ most a b h k = h .is ∙ sym (k .is)
@@ -14,9 +14,6 @@ after-unique s σ ρ x a b h k = h .is ∙ sym (k .is)
 
 pub none-unique : (a b : Curve) → None a → None b → a ≡ b
 none-unique a b h k = h .is ∙ sym (k .is)
-
-pub server-unique : (R T : ℕ) (a b : Curve) → Server R T a → Server R T b → a ≡ b
-server-unique R T a b h k = h .is ∙ sym (k .is)
 
 pub join-unique : (c d : Curve) (a b : Curve) → Join c d a → Join c d b → a ≡ b
 join-unique c d a b h k = h .is ∙ sym (k .is)

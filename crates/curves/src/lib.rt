@@ -2,9 +2,10 @@
 // new curve or a number comes back.
 ghost use Prim.Native.Nat.{_+_, _≤_, _<_, _^_};
 ghost use lib.Seq.{slice};
-ghost use Rattle.curves.specs.Curve.{All, server, after, remainder, delay};
+ghost use Rattle.ground.specs.Each.{Each};
+ghost use Rattle.curves.specs.Curve.{after, remainder, delay};
 ghost use Rattle.curves.specs.Held.{shapeOf, Live, Leaves, InRange, Leaving};
-ghost use Rattle.curves.specs.Contract.{CatchUp, After, None, Server, Join, Lag, Left, LeastWait, Remainder, Delay};
+ghost use Rattle.curves.specs.Contract.{CatchUp, After, None, Join, Lag, Left, LeastWait, Remainder, Delay};
 
 // A line that begins at `burst` bytes and rises by `rate` a slot.
 pub struct Stage {
@@ -58,23 +59,6 @@ impl Curve {
         }
     }
 
-    // The curve of one server.
-    pub fn server(rate: u64, latency: u64) -> Curve
-        ensures { λ r. ⌜ Server rate latency r ⌝ }
-    {
-        let z = Stage { burst: 0, rate: 0 };
-        let mut stages = [z; 16];
-        stages[0] = Stage {
-            burst: 0,
-            rate: rate,
-        };
-        Curve {
-            offset: latency,
-            count: 1,
-            stages: stages,
-        }
-    }
-
     // The curve of two stretches in series: the offsets add up, and the stages of both stand in order.
     pub fn join(self, other: Curve) -> Curve
         requires { ⌜ (self .count + other .count ≤ 16) × (self .offset + other .offset < 2 ^ 63) ⌝ }
@@ -95,7 +79,7 @@ impl Curve {
 
     // The slots until the stages from `from` up to before `to` have `sigma` bytes.
     pub fn lag(self, from: usize, to: usize, sigma: u64) -> u64
-        requires { ⌜ (to ≤ self .count) × (self .count ≤ 16) × All Live (slice from to (shapeOf self .stages)) × (sigma < 2 ^ 40) ⌝ }
+        requires { ⌜ (to ≤ self .count) × (self .count ≤ 16) × Each Live (slice from to (shapeOf self .stages)) × (sigma < 2 ^ 40) ⌝ }
         ensures { λ r. ⌜ Lag self from to sigma r ⌝ }
     {
         let mut most: u64 = 0;
@@ -110,7 +94,7 @@ impl Curve {
 
     // What a group (sigma, rho) leaves of the stages from `from` up to before `to`, `gap` slots after the offset; the others stay.
     pub fn left(self, from: usize, to: usize, sigma: u64, rho: u64, gap: u64) -> Curve
-        requires { ⌜ (from ≤ to) × (to ≤ self .count) × (self .count ≤ 16) × All (Leaves sigma rho gap) (slice from to (shapeOf self .stages)) × (self .offset + gap < 2 ^ 64) ⌝ }
+        requires { ⌜ (from ≤ to) × (to ≤ self .count) × (self .count ≤ 16) × Each (Leaves sigma rho gap) (slice from to (shapeOf self .stages)) × (self .offset + gap < 2 ^ 64) ⌝ }
         ensures { λ r. ⌜ Left self from to sigma rho gap r ⌝ }
     {
         let mut r = self;

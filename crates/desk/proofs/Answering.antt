@@ -1,10 +1,10 @@
 -- What the entry of the analysis has in hand: the record of a listing, whose numbers fit, or a refusal, whose detail fits.
 -- Assumes nothing.
-use Prim.Native.Nat.{ℕ, _+_, _-_, _*_, _^_, _≤_, _<_}
-use mathlib.Core.Path.{_≡_, refl, sym, ap, _∙_, subst}
-use mathlib.Core.List.{List, [], _∷_, _++_}
+use Prim.Native.Nat.{ℕ, _-_, _≤_, _<_}
+use mathlib.Core.Path.{_≡_, sym, ap, _∙_, subst}
+use mathlib.Core.List.{List}
 use native.Mathlib.Omega.{arith}
-use lib.ListN.{length, getD, take, replicate, length-append, length-replicate, List·getD-append}
+use lib.ListN.{length, take, replicate, length-append, length-replicate, List·getD-append}
 use lib.Seq.{take-at}
 use Rattle.numbers.specs.SevenLaws.{Bytes}
 use Rattle.fields.specs.declared.Why.{Why}

@@ -1,8 +1,8 @@
 -- What the entry of the analysis gives, once more in the words of the demands: what lies past the first 1,024 bytes never changes it, and a call that
 -- succeeds has answered as demands 2 and 3 say.
 -- Assumes nothing.
-use Prim.Native.Nat.{ℕ, _≤_, _<_}
-use mathlib.Core.Path.{_≡_, refl, sym, ap, _∙_, subst}
+use Prim.Native.Nat.{ℕ, _<_}
+use mathlib.Core.Path.{_≡_, sym, ap, _∙_, subst}
 use mathlib.Core.List.{List, [], _++_, append-assoc}
 use native.Mathlib.Nat.{zero-add}
 use native.Mathlib.Omega.{arith}
@@ -11,7 +11,7 @@ use Rattle.numbers.specs.declared.Got.the-variants.{Number}
 use Rattle.numbers.specs.Seven.{encode, numberAt}
 use Rattle.numbers.specs.SevenLaws.{Bytes, read-written}
 use Rattle.sheet.specs.Sheet.{these, sheetOf}
-use Rattle.sheet.specs.Valid.{Valid, mode}
+use Rattle.sheet.specs.Valid.{mode}
 use Rattle.sheet.specs.FrontLaws.{front-verdict}
 use Rattle.sheet.specs.ValidLaws.{read-valid}
 use Rattle.sheet.specs.AcceptLaws.{read-refused}

@@ -1,7 +1,7 @@
 -- What the entries of the reader and the writer give and leave, in document 01's sentences: a refusal is one of those that each gives and writes
 -- nothing; the byte strings that are accepted are just the bytes of valid lists, and the lists that are accepted just the valid ones.
 -- Assumes nothing.
-use Prim.Native.Nat.{ℕ, _+_, _*_, _≤_, _<_}
+use Prim.Native.Nat.{ℕ, _≤_, _<_}
 use mathlib.Core.Path.{_≡_, refl, ap, _∙_}
 use mathlib.Core.Logic.{_⊎_, inl, inr}
 use mathlib.Core.List.{List, _++_}

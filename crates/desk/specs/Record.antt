@@ -1,8 +1,8 @@
 -- What the functions inside the entry of the analysis hand on to each other.
 -- Assumes nothing.
-use Prim.Native.Nat.{ℕ, _+_, _≤_, _<_}
+use Prim.Native.Nat.{ℕ, _≤_, _<_}
 use mathlib.Core.Path.{_≡_}
-use mathlib.Core.List.{List, [], _∷_}
+use mathlib.Core.List.{List, _∷_}
 use lib.ListN.{length, getD, take}
 use Rattle.analysis.specs.declared.Analysed.{Analysed}
 use Rattle.desk.specs.declared.Record.{Record}

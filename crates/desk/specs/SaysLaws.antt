@@ -1,21 +1,20 @@
 -- The entry of the analysis answers exactly as Says.antt has it: so a refusal writes nothing, 9 is never given, and 6, 7 and 8 are given exactly where
 -- their sentences hold and no earlier refusal does.
 -- Assumes nothing.
-use Prim.Native.Nat.{ℕ, _+_, _*_, _≤_, _<_}
+use Prim.Native.Nat.{ℕ, _≤_, _<_}
 use mathlib.Core.Path.{_≡_, refl, sym, ap, _∙_, subst}
 use mathlib.Core.Logic.{_⊎_, inl, inr}
-use mathlib.Core.Bool.{Bool, true, false, true≢false}
+use mathlib.Core.Bool.{true, false, true≢false}
 use mathlib.Core.List.{List}
 use native.Mathlib.Omega.{arith}
 use lib.ListN.{length}
 use borrow.Author.Tests.{lt-ltb, le-ltb}
 use Rattle.ground.specs.OrderLaws.{lt-or-ge, le-or-lt}
 use Rattle.numbers.specs.SevenLaws.{Bytes}
-use Rattle.fields.specs.declared.Why.{Why}
 use Rattle.fields.specs.declared.Why.the-variants.{Crossing, Crowded, Points, TooLarge, Short}
 use Rattle.fields.specs.Refusal.{refusal}
 use Rattle.sheet.specs.Sheet.{Found, fail, these, sheetOf}
-use Rattle.sheet.specs.Valid.{Valid, mode}
+use Rattle.sheet.specs.Valid.{mode}
 use Rattle.sheet.specs.ValidLaws.{read-valid}
 use Rattle.sheet.specs.AcceptLaws.{read-refused}
 use Rattle.row.specs.declared.Check.the-variants as check

@@ -1,6 +1,6 @@
 -- Laws of the digits of a number, over their base.
 -- Assumes nothing.
-use Prim.Native.Nat.{ℕ, zero, suc, _+_, _*_, _/_, _^_, _≤_, _<_}
+use Prim.Native.Nat.{ℕ, zero, suc, _/_, _^_, _≤_, _<_}
 use mathlib.Core.Path.{_≡_}
 use mathlib.Core.Logic.{⊎-elim}
 use native.Mathlib.Nat.{pow-zero, pow-suc, one-mul, one-le-pow, div-lt-iff-lt-mul, le-div-iff-mul-le}

@@ -3,7 +3,7 @@
 use Prim.Native.Nat.{ℕ, zero, suc, _<_}
 use mathlib.Core.List.{List, [], _∷_, _++_, map}
 use native.Mathlib.Nat.{le-of-suc-le-suc, not-suc-le-zero}
-use lib.ListN.{length, getD}
+use lib.ListN.{length, getD, take}
 use Rattle.ground.specs.Each.{Each}
 
 pub each-at : {A : Type 0} (P : A → Type 0) (l : List A) (d : A) → Each P l → (k : ℕ) → k < length l → P (getD l k d)
@@ -34,3 +34,14 @@ each-map P Q (x ∷ l) f h = (f x (h .0), each-map P Q l f (h .1))
 pub each-mapped : {A B : Type 0} (P : B → Type 0) (f : A → B) (l : List A) → Each (λ x. P (f x)) l → Each P (map f l)
 each-mapped P f [] e = tt
 each-mapped P f (x ∷ l) e = (e .0, each-mapped P f l (e .1))
+
+pub each-both : {A : Type 0} (P Q R : A → Type 0) (l : List A) → ((x : A) → P x → Q x → R x) → Each P l → Each Q l → Each R l
+each-both P Q R [] f h k = tt
+each-both P Q R (x ∷ l) f h k = (f x (h .0) (k .0), each-both P Q R l f (h .1) (k .1))
+
+-- of the first n, at a place among them
+pub each-within : {A : Type 0} (P : A → Type 0) (l : List A) (n i : ℕ) (d : A) → Each P (take n l) → i < n → i < length l → P (getD l i d)
+each-within P [] n i d h p q = absurd (not-suc-le-zero q)
+each-within P (x ∷ l) zero i d h p q = absurd (not-suc-le-zero p)
+each-within P (x ∷ l) (suc n) zero d h p q = h .0
+each-within P (x ∷ l) (suc n) (suc i) d h p q = each-within P l n i d (h .1) (le-of-suc-le-suc p) (le-of-suc-le-suc q)

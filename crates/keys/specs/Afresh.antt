@@ -7,11 +7,10 @@ use mathlib.Core.Logic.{_⊎_}
 use mathlib.Core.List.{List, [], _∷_, _++_}
 use Prim.Native.Nat.{ℕ, zero, suc, _*_, _-_, _≤_, _<_, max}
 use lib.ListN.{length, getD, drop}
-use Rattle.tandem.specs.Tandem.{Path}
+use Rattle.tandem.specs.Tandem.{Path, noFlow}
 use Rattle.row.specs.Groups.{path}
 use Rattle.tandem.specs.declared.Flow.{Flow}
 use Rattle.tree.specs.Plan.{headOf, tailOf}
-use Rattle.tree.specs.Planned.{noFlow}
 use Rattle.tree.specs.Stands.{Contains}
 use Rattle.keys.specs.Choose.{Climb}
 

@@ -6,11 +6,10 @@ use mathlib.Core.List.{List, [], _∷_}
 use Prim.Native.Nat.{ℕ, zero, suc, _<_}
 use native.Mathlib.Omega.{arith}
 use lib.ListN.{getD}
-use Rattle.tandem.specs.Tandem.{Path}
+use Rattle.tandem.specs.Tandem.{Path, noFlow}
 use Rattle.tandem.specs.declared.Server.{Server}
 use Rattle.tandem.specs.declared.Flow.{Flow}
 use Rattle.tree.specs.Met.{srv, flowed}
-use Rattle.tree.specs.Planned.{noFlow}
 use Rattle.ground.specs.Each.{Each}
 use Rattle.tree.specs.Ordered.{Placed, Ordered}
 use Rattle.tree.specs.Stands.{Contains}

@@ -12,13 +12,13 @@ use lib.Dec.{ltb, eqb}
 use lib.ListN.{length, getD, drop, length-drop, drop-of-length-le}
 use lib.Seq.{drop-nil, getD-drop}
 use borrow.Author.Tests.{eqb-true, ltb-false}
+use Rattle.tandem.specs.Tandem.{noFlow}
 use Rattle.curves.specs.Curve.{Shape, neutral, joined}
 use Rattle.tandem.specs.declared.Server.{Server}
 use Rattle.tandem.specs.declared.Flow.{Flow}
 use Rattle.ground.specs.OrderLaws.{le-or-lt}
 use Rattle.tandem.specs.TestLaws.{decide}
 use Rattle.tree.specs.Plan.{Node, Top, alone, over, topOf, serverCurve, pieceOn, along, nodeCurve, nodeOf, headOf, tailOf, plan}
-use Rattle.tree.specs.Planned.{noFlow}
 use Rattle.ground.specs.Each.{Each}
 use Rattle.ground.specs.EachLaws.{each-at, each-map}
 use Rattle.tree.specs.Ordered.{Placed, After, Ordered}

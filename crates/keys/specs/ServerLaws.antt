@@ -13,8 +13,9 @@ use borrow.Author.Tests.{leb-true, leb-false, ltb-true, ltb-false}
 use lib.Dec.{ltb, leb}
 use lib.ListN.{length, getD}
 use lib.Seq.{slice}
+use Rattle.ground.specs.EachLaws.{each-at}
 use Rattle.curves.specs.declared.Stage.{Stage}
-use Rattle.curves.specs.Curve.{Shape, line, after, greatest, catchUp, leastWait, delay, All, Rates}
+use Rattle.curves.specs.Curve.{Shape, line, after, greatest, catchUp, leastWait, delay, Rates}
 use Rattle.curves.specs.Part.{changed}
 use Rattle.curves.specs.StageLaws.{le-greatest, catch-up-enough}
 use Rattle.curves.specs.PartLaws.{changed-inside, changed-outside, changed-length, all-slice}
@@ -119,11 +120,6 @@ offset-le c (g ∷ gs) es =
 pub slots-le-delay : (c : Shape) (gs : List Flow) (es : List ℕ) (σ ρ : ℕ) → c .offset ≤ delay (leftOf c gs es) σ ρ
 slots-le-delay c gs es σ ρ = omega (arith, offset-le c gs es, delay-after-offset (leftOf c gs es) σ ρ)
 
-pub all-at : (P : Stage → Type 0) (l : List Stage) (j : ℕ) (z : Stage) → All P l → j < length l → P (getD l j z)
-all-at P [] j z h p = absurd (omega arith)
-all-at P (s ∷ l) zero z h p = h .0
-all-at P (s ∷ l) (suc j) z h p = all-at P l j z (h .1) (omega arith)
-
 -- a stage has the first slot's bytes one slot after the delay
 delay-line : (c : Shape) (σ ρ j : ℕ) → Rates 1 (c .stages) → j < length (c .stages) → σ + ρ ≤ line (delay c σ ρ + 1 - c .offset) (stageAt c j)
 unfolding leastWait
@@ -131,8 +127,8 @@ delay-line c σ ρ j h p =
     let z : Stage = record { burst = 0; rate = 0 } in
     let w = delay c σ ρ + 1 - c .offset in
     let k : greatest (catchUp (σ + ρ)) (c .stages) ≤ w = omega (arith, delay-by-wait c σ ρ h) in
-    catch-up-enough (σ + ρ) w (stageAt c j) (all-at (λ s. 1 ≤ s .rate) (c .stages) j z h p)
-    (all-at (λ s. catchUp (σ + ρ) s ≤ w) (c .stages) j z (le-greatest (catchUp (σ + ρ)) w (c .stages) k) p)
+    catch-up-enough (σ + ρ) w (stageAt c j) (each-at (λ s. 1 ≤ s .rate) (c .stages) z h j p)
+    (each-at (λ s. catchUp (σ + ρ) s ≤ w) (c .stages) z (le-greatest (catchUp (σ + ρ)) w (c .stages) k) j p)
 
 pub left-length : (c : Shape) (gs : List Flow) (es : List ℕ) → length (leftOf c gs es .stages) ≡ length (c .stages)
 unfolding leftOf leftBy
@@ -149,7 +145,7 @@ server-bound c gs es σ ρ j h p =
     let q : j < length (m .stages) = omega (arith, left-length c gs es) in
     let x = delay m σ ρ + 1 - m .offset in
     let d = delay-line m σ ρ j h q in
-    let r = left-line c gs es x j (all-at (λ s. 1 ≤ s .rate) (m .stages) j (record { burst = 0; rate = 0 }) h q) in
+    let r = left-line c gs es x j (each-at (λ s. 1 ≤ s .rate) (m .stages) (record { burst = 0; rate = 0 }) h j q) in
     let e : m .offset - c .offset + x ≡ delay m σ ρ + 1 - c .offset = omega (arith, r .1, delay-after-offset m σ ρ) in
     subst (λ (y : ℕ). burstsOn gs j + (σ + ρ) ≤ line y (stageAt c j)) e (omega (arith, d, r .2))
 

@@ -7,11 +7,12 @@ use Prim.Native.Nat.{ℕ, suc, _+_, _-_, _*_, _/_, _≤_}
 use lib.Dec.{leb}
 use lib.ListN.{length, getD, take, drop}
 use lib.Seq.{slice}
+use Rattle.tandem.specs.Tandem.{noFlow}
+use Rattle.ground.specs.Each.{Each}
 use Rattle.curves.specs.declared.Stage.{Stage}
-use Rattle.curves.specs.Curve.{Shape, line, delay, All, Rates}
+use Rattle.curves.specs.Curve.{Shape, line, delay, Rates}
 use Rattle.tandem.specs.declared.Server.{Server}
 use Rattle.tandem.specs.declared.Flow.{Flow}
-use Rattle.tree.specs.Planned.{noFlow}
 use Rattle.keys.specs.Choose.{Climb}
 use Rattle.keys.specs.Left.{rowCurve, lagOf, leftBy, leftOf, burstsOn}
 
@@ -68,4 +69,4 @@ pub record Moving (gs : List Flow) (k : ℕ) (s : State) : Type 0 where
 
 -- where no server is faster than B: no stage has more than such a server gives in the slots so far
 pub record Small (B : ℕ) (c : Shape) : Type 0 where
-  pub stages : All (λ s. (s .rate ≤ B) × (s .burst ≤ B * c .offset)) (c .stages)
+  pub stages : Each (λ s. (s .rate ≤ B) × (s .burst ≤ B * c .offset)) (c .stages)

@@ -13,6 +13,7 @@ use borrow.Author.Tests.{leb-false}
 use lib.Dec.{leb}
 use lib.ListN.{length, getD, take, drop, replicate, length-take, length-drop, length-append, length-replicate, drop-of-length-le}
 use lib.Seq.{slice, take-suc, drop-cons, getD-take, getD-drop}
+use Rattle.tandem.specs.Tandem.{noFlow}
 use Rattle.curves.specs.declared.Stage.{Stage}
 use Rattle.curves.specs.Curve.{Shape, line, after, delay, Rates}
 use Rattle.curves.specs.Part.{changed}
@@ -25,7 +26,7 @@ use Rattle.tree.specs.Plan.{headOf, tailOf}
 use Rattle.tree.specs.Grid.{flat}
 use Rattle.ground.specs.Each.{Each}
 use Rattle.ground.specs.EachLaws.{each-append, each-map}
-use Rattle.tree.specs.Planned.{noFlow, answerOf}
+use Rattle.tree.specs.Planned.{answerOf}
 use Rattle.tree.specs.Ordered.{Placed, Ordered}
 use Rattle.keys.specs.Numbers.{keysBelow}
 use Rattle.keys.specs.Choose.{keysUnder}

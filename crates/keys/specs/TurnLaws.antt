@@ -8,12 +8,12 @@ use Prim.Native.Nat.{ℕ, zero, suc, _+_, _*_, _≤_, _<_}
 use native.Mathlib.Omega.{arith}
 use lib.ListN.{length, getD, take, drop}
 use lib.Seq.{take-all}
+use Rattle.tandem.specs.Tandem.{noFlow}
 use Rattle.tandem.specs.declared.Flow.{Flow}
 use Rattle.tree.specs.Grid.{flat}
 use Rattle.ground.specs.Each.{Each}
 use Rattle.ground.specs.EachLaws.{each-append}
 use Rattle.tree.specs.GridLaws.{each-flat}
-use Rattle.tree.specs.Planned.{noFlow}
 use Rattle.keys.specs.Keys.{leastOf}
 use Rattle.keys.specs.KeyLaws.{least-stays}
 use Rattle.keys.specs.Numbers.{Growing}

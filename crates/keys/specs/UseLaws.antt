@@ -8,11 +8,13 @@ use native.Mathlib.Nat.{mul-le-mul-right, mul-add, zero-div, zero-mod, zero-mul}
 use native.Mathlib.Omega.{arith}
 use lib.ListN.{length, getD, take, replicate, length-append}
 use lib.Seq.{slice, take-suc}
+use Rattle.tandem.specs.Tandem.{noFlow}
+use Rattle.ground.specs.EachLaws.{each-at, each-map}
 use Rattle.curves.specs.declared.Stage.{Stage}
-use Rattle.curves.specs.Curve.{Shape, line, after, greatest, catchUp, All, Rates}
+use Rattle.curves.specs.Curve.{Shape, line, after, greatest, catchUp, Rates}
 use Rattle.curves.specs.Held.{Live, Leaves}
 use Rattle.curves.specs.Part.{changed}
-use Rattle.curves.specs.StageLaws.{all-weaken, le-greatest, catch-up-enough}
+use Rattle.curves.specs.StageLaws.{le-greatest, catch-up-enough}
 use Rattle.curves.specs.PartLaws.{changed-inside, changed-length, all-slice}
 use Rattle.tandem.specs.Sums.{weigh}
 use Rattle.tandem.specs.declared.Server.{Server}
@@ -21,11 +23,10 @@ use Rattle.tree.specs.Plan.{nodeOf, nodeCurve, plan}
 use Rattle.ground.specs.Each.{Each}
 use Rattle.tree.specs.Amounts.{sumOf}
 use Rattle.tree.specs.PruneLaws.{latenciesOf}
-use Rattle.tree.specs.Planned.{noFlow}
 use Rattle.tree.specs.Ordered.{Workable}
 use Rattle.keys.specs.Numbers.{pointAt}
 use Rattle.keys.specs.Left.{rowCurve, lagOf, leftBy, leftOf, stageAt, passes, burstsOn}
-use Rattle.keys.specs.ServerLaws.{all-at, left-line, left-length}
+use Rattle.keys.specs.ServerLaws.{left-line, left-length}
 use Rattle.keys.specs.LeftLaws.{root-left}
 use Rattle.keys.specs.State.{State, Small, Moving, wantOf, gives}
 
@@ -74,7 +75,7 @@ rates-by [] h = tt
 rates-by (s ∷ l) h = (h 0 (omega arith), rates-by l (λ j p. h (suc j) (omega arith)))
 
 at-rates : (l : List Stage) (j : ℕ) → Rates 1 l → j < length l → 1 ≤ getD l j (record { burst = 0; rate = 0 }) .rate
-at-rates l j h p = all-at (λ s. 1 ≤ s .rate) l j (record { burst = 0; rate = 0 }) h p
+at-rates l j h p = each-at (λ s. 1 ≤ s .rate) l (record { burst = 0; rate = 0 }) h j p
 
 -- a whole point that can be worked out: every server still moves, and the slots are few
 pub point-fine : (ss : List Server) (w : Flow) (gs : List Flow) (es : List ℕ) → Workable ss (w ∷ gs) es → w .first ≡ 1 → w .last ≡ length ss
@@ -84,7 +85,7 @@ point-fine ss w gs es h f l =
     let r = root-left ss w gs es (h .ordered) (h .placed) f l in
     let v = h .fine .0 in
     let a : Rates 1 (nodeCurve ss w gs (plan ss gs es) .stages) =
-    all-weaken Live (λ s. 1 ≤ s .rate) (nodeCurve ss w gs (plan ss gs es) .stages) (λ s x. x .moves) (v .live) in
+    each-map Live (λ s. 1 ≤ s .rate) (nodeCurve ss w gs (plan ss gs es) .stages) (λ s x. x .moves) (v .live) in
     (subst (λ (c : Shape). Rates 1 (c .stages)) r a, subst (λ (c : Shape). c .offset < 2 ^ 36) r (v .near))
 
 -- servers that move at the end move now
@@ -97,12 +98,12 @@ moving-rates gs k s h = rates-by (s .curve .stages) each
     each : (j : ℕ) → j < length (s .curve .stages) → 1 ≤ stageAt (s .curve) j .rate
     each j p = left-line (s .curve) (take k gs) [] 0 j (at-rates (m .stages) j (h .moves) (omega (arith, left-length (s .curve) (take k gs) []))) .0
 
-all-changed : (P Q : Stage → Type 0) (f : Stage → Stage) → ((s : Stage) → P s → Q (f s)) → ((s : Stage) → P s → Q s) → (a b : ℕ) (l : List Stage) → All P l
-    → All Q (changed f a b l)
+all-changed : (P Q : Stage → Type 0) (f : Stage → Stage) → ((s : Stage) → P s → Q (f s)) → ((s : Stage) → P s → Q s) → (a b : ℕ) (l : List Stage) → Each P l
+    → Each Q (changed f a b l)
 all-changed P Q f x y a b [] h = tt
-all-changed P Q f x y zero zero (s ∷ l) h = (y s (h .0), all-weaken P Q l y (h .1))
+all-changed P Q f x y zero zero (s ∷ l) h = (y s (h .0), each-map P Q l y (h .1))
 all-changed P Q f x y zero (suc b) (s ∷ l) h = (x s (h .0), all-changed P Q f x y zero b l (h .1))
-all-changed P Q f x y (suc a) zero (s ∷ l) h = (y s (h .0), all-weaken P Q l y (h .1))
+all-changed P Q f x y (suc a) zero (s ∷ l) h = (y s (h .0), each-map P Q l y (h .1))
 all-changed P Q f x y (suc a) (suc b) (s ∷ l) h = (y s (h .0), all-changed P Q f x y a b l (h .1))
 
 -- no stage has more than a server of rate B gives in the slots so far
@@ -111,7 +112,7 @@ unfolding rowCurve
 small-row B ss h = record { stages = go (sumOf (latenciesOf ss)) ss h }
   where
     go : (t : ℕ) (l : List Server) → Each (λ s. s .rate ≤ B) l
-        → All (λ s. (s .rate ≤ B) × (s .burst ≤ B * t)) (map (λ (s : Server). record { burst = 0; rate = s .rate }) l)
+        → Each (λ (s : Stage). (s .rate ≤ B) × (s .burst ≤ B * t)) (map (λ (s : Server). record { burst = 0; rate = s .rate }) l)
     go t [] h = tt
     go t (s ∷ l) h = ((h .0, omega arith), go t l (h .1))
 
@@ -125,16 +126,16 @@ small-next B c g x h =
           (λ s p. (p .0, omega (arith, p .1, mul-add B (c .offset) x))) (g .first - 1) (g .last) (c .stages) (h .stages);
     }
 
-pub small-line : (B : ℕ) (c : Shape) (x : ℕ) → Small B c → All (λ s. line x s ≤ B * (c .offset + x)) (c .stages)
+pub small-line : (B : ℕ) (c : Shape) (x : ℕ) → Small B c → Each (λ s. line x s ≤ B * (c .offset + x)) (c .stages)
 small-line B c x h =
-    all-weaken (λ s. (s .rate ≤ B) × (s .burst ≤ B * c .offset)) (λ s. line x s ≤ B * (c .offset + x)) (c .stages)
+    each-map (λ s. (s .rate ≤ B) × (s .burst ≤ B * c .offset)) (λ s. line x s ≤ B * (c .offset + x)) (c .stages)
     (λ s p. omega (arith, p .1, mul-le-mul-right x (p .0), mul-add B (c .offset) x)) (h .stages)
 
 pub small-line-at : (B : ℕ) (c : Shape) (x j : ℕ) → Small B c → j < length (c .stages) → line x (stageAt c j) ≤ B * (c .offset + x)
-small-line-at B c x j h p = all-at (λ s. line x s ≤ B * (c .offset + x)) (c .stages) j (record { burst = 0; rate = 0 }) (small-line B c x h) p
+small-line-at B c x j h p = each-at (λ s. line x s ≤ B * (c .offset + x)) (c .stages) (record { burst = 0; rate = 0 }) (small-line B c x h) j p
 
 slice-all : (P : Stage → Type 0) (a b : ℕ) (l : List Stage) → ((j : ℕ) → a ≤ j → j < b → j < length l → P (getD l j (record { burst = 0; rate = 0 })))
-    → All P (slice a b l)
+    → Each P (slice a b l)
 slice-all P zero zero l h = tt
 slice-all P (suc a) zero l h = tt
 slice-all P zero (suc b) [] h = tt
@@ -144,10 +145,10 @@ slice-all P zero (suc b) (s ∷ l) h =
 slice-all P (suc a) (suc b) (s ∷ l) h = slice-all P a b l (λ j p q r. h (suc j) (omega arith) (omega arith) (omega arith))
 
 -- the stages under a path are in range for their lag
-pub path-live : (c : Shape) (a b : ℕ) → Rates 1 (c .stages) → Small (2 ^ 20) c → c .offset < 2 ^ 36 → All Live (slice a b (c .stages))
+pub path-live : (c : Shape) (a b : ℕ) → Rates 1 (c .stages) → Small (2 ^ 20) c → c .offset < 2 ^ 36 → Each Live (slice a b (c .stages))
 path-live c a b r h n =
     slice-all Live a b (c .stages) (λ j p q l.
-    let x = all-at (λ s. (s .rate ≤ 2 ^ 20) × (s .burst ≤ 2 ^ 20 * c .offset)) (c .stages) j (record { burst = 0; rate = 0 }) (h .stages) l in
+    let x = each-at (λ s. (s .rate ≤ 2 ^ 20) × (s .burst ≤ 2 ^ 20 * c .offset)) (c .stages) (record { burst = 0; rate = 0 }) (h .stages) j l in
     record { moves = at-rates (c .stages) j r l; slow = x .0; low = omega (arith, x .1) })
 
 -- a group can be taken out: under its path each stage has the burst by then, and room for the rate
@@ -169,7 +170,7 @@ next-leaves c g e j h r p a b =
 
 -- so its group can be taken out of them
 pub path-leaves : (c : Shape) (g : Flow) (e : ℕ) → Rates 1 (c .stages) → Rates 1 (leftBy c g (lagOf c g + e) .stages) → Small (2 ^ 20) c
-    → c .offset + (lagOf c g + e) < 2 ^ 42 → All (Leaves (g .burst) (g .rate) (lagOf c g + e)) (slice (g .first - 1) (g .last) (c .stages))
+    → c .offset + (lagOf c g + e) < 2 ^ 42 → Each (Leaves (g .burst) (g .rate) (lagOf c g + e)) (slice (g .first - 1) (g .last) (c .stages))
 path-leaves c g e r t h n =
     slice-all (Leaves (g .burst) (g .rate) (lagOf c g + e)) (g .first - 1) (g .last) (c .stages) (λ j p q l.
     let x = next-leaves c g e j r t l p q in

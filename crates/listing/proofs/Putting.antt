@@ -6,7 +6,8 @@ use mathlib.Core.List.{List, [], _++_}
 use native.Mathlib.Numerals.{add-one}
 use native.Mathlib.Omega.{arith}
 use lib.ListN.{length, getD, drop, length-append}
-use lib.Seq.{sets, length-sets, drop-cons}
+use lib.Seq.{sets, drop-cons}
+use Rattle.tandem.specs.Tandem.{noFlow}
 use Rattle.tandem.specs.declared.Flow.{Flow}
 use Rattle.listing.specs.Text.{groupLine}
 use Rattle.text.specs.Contract.{Put}
@@ -33,9 +34,6 @@ pub record Filling (groups : List Flow) (waits : List ℕ) (n : ℕ) (first : Li
 
 pub begin-filling : (groups : List Flow) (waits : List ℕ) (n : ℕ) (first : List ℕ) (from : ℕ) → Filling groups waits n first from first from 0
 begin-filling groups waits n first from = record { left = n; turns = omega arith; place = refl; same = refl; long = refl }
-
-abbrev pub noFlow : Flow
-noFlow = record { first = 0; last = 0; burst = 0; rate = 0 }
 
 -- the line of group i + 1 of the list, whose wait is number i
 abbrev pub lineAt : List Flow → List ℕ → ℕ → List ℕ

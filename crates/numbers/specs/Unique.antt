@@ -1,7 +1,7 @@
 -- Each public function's contract leaves one possible result, and one possible content of each lent buffer, for every input.
 -- Assumes nothing.
 use Prim.Native.Nat.{ℕ}
-use mathlib.Core.Path.{_≡_, sym, _∙_}
+use mathlib.Core.Path.{_≡_}
 use mathlib.Core.List.{List}
 use Rattle.ground.specs.ValueLaws.{one-value}
 use Rattle.numbers.specs.declared.Got.{Got}

@@ -10,6 +10,7 @@ use borrow.Author.Tests.{eqb-true, eqb-false}
 use lib.Dec.{eqb}
 use lib.ListN.{length, drop, getD, set, replicate, length-set, length-map, replicate-append-replicate, drop-of-length-le}
 use lib.Seq.{drop-cons, getD-set-same, getD-set-other}
+use Rattle.tandem.specs.Tandem.{noFlow}
 use Rattle.curves.specs.declared.Curve.{Curve}
 use Rattle.curves.specs.Curve.{Shape, delay}
 use Rattle.curves.specs.Held.{Holds}
@@ -17,7 +18,7 @@ use Rattle.tandem.specs.declared.Server.{Server}
 use Rattle.tandem.specs.declared.Flow.{Flow}
 use Rattle.tree.specs.Plan.{Node, Top, alone, over, topOf, nodeOf, plan}
 use Rattle.point.specs.declared.Point.{Point}
-use Rattle.tree.specs.Planned.{waitsOf, noFlow, answerOf}
+use Rattle.tree.specs.Planned.{waitsOf, answerOf}
 use Rattle.tree.specs.NodeLaws.{planFrom, curveAt, nodeAt, plan-length, plan-at}
 use Rattle.point.specs.Point.{pointOf}
 

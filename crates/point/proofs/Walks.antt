@@ -10,6 +10,7 @@ use native.Mathlib.Numerals.{add-one}
 use native.Mathlib.Omega.{arith}
 use lib.Dec.{ltb}
 use lib.ListN.{length, length-append, getD}
+use Rattle.tandem.specs.Tandem.{noServer}
 use Rattle.curves.specs.declared.Curve.{Curve}
 use Rattle.curves.specs.Curve.{Shape, neutral, server, joined}
 use Rattle.curves.specs.Held.{Holds}
@@ -126,7 +127,7 @@ module _ (ss : List Server) (top : ℕ → Top) (whole : Shape) (e : ℕ) (c : C
     -- what begins at server j is joined: the server, or what a group leaves
 
     pub walk-room : (w : Walking ss top whole e c j) → top j ≡ alone → length (whole .stages) ≤ 16 → whole .offset < 2 ^ 36
-        → (c .count < 16) × (c .offset + getD ss (j - 1) (record { rate = 0; latency = 0 }) .latency < 2 ^ 63)
+        → (c .count < 16) × (c .offset + getD ss (j - 1) noServer .latency < 2 ^ 63)
     walk-room w t m n = server-room _ _ (w .holds) (part-alone (w .turns) (w .shape) (w .enough) (w .same) t) m n
 
     pub walk-room-over : (w : Walking ss top whole e c j) (b : Curve) (f : Shape) (l : ℕ) → top j ≡ over f l → Holds b f → length (whole .stages) ≤ 16

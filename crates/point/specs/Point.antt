@@ -3,12 +3,13 @@
 use mathlib.Core.List.{List}
 use Prim.Native.Nat.{ℕ, _-_, _≤_, _<_}
 use lib.ListN.{take, getD}
+use Rattle.tandem.specs.Tandem.{noFlow}
 use Rattle.tandem.specs.declared.Server.{Server}
 use Rattle.tandem.specs.declared.Flow.{Flow}
 use Rattle.row.specs.declared.Row.{Row}
 use Rattle.row.specs.RowFor.{padded}
 use Rattle.tree.specs.Grid.{Answer}
-use Rattle.tree.specs.Planned.{noFlow, answerOf}
+use Rattle.tree.specs.Planned.{answerOf}
 use Rattle.tree.specs.Ordered.{Placed}
 use Rattle.point.specs.declared.Point.{Point}
 

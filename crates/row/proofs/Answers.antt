@@ -9,7 +9,7 @@ use lib.Dec.{ltb, eqb}
 use lib.ListN.{length, length-map}
 use borrow.Author.Tests.{lt-ltb}
 use Rattle.sheet.specs.Valid.{grid}
-use Rattle.tandem.specs.Tandem.{Tandem, size}
+use Rattle.tandem.specs.Tandem.{Tandem, size, noServer}
 use Rattle.tandem.specs.Crowded.{lowestCrowded}
 use Rattle.tandem.specs.CrowdedLaws.{sound-uncrowded}
 use Rattle.tandem.specs.Sound.{Sound, Limits}
@@ -35,7 +35,7 @@ pub row-parts : (servers : List ℕ) (n : ℕ) (flows : List ℕ) (m mode g : �
     → rowFor (tandemIn servers n flows m) mode g
     ≡ record {
       size = n;
-      servers = padded 16 (record { rate = 0; latency = 0 }) (listed n (serverIn servers));
+      servers = padded 16 noServer (listed n (serverIn servers));
       count = groupedFor (tandemIn servers n flows m) .count;
       groups = groupedFor (tandemIn servers n flows m) .groups;
       mode = mode;

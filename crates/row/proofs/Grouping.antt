@@ -11,7 +11,7 @@ use native.Mathlib.Omega.{arith}
 use lib.ListN.{length, getD, set, replicate, length-append, length-map}
 use Rattle.tandem.specs.declared.Flow.{Flow}
 use Rattle.tandem.specs.Sums.{any}
-use Rattle.tandem.specs.Tandem.{Tandem, Path, size, flow, on, bursts, rates}
+use Rattle.tandem.specs.Tandem.{Tandem, Path, size, flow, on, bursts, rates, noFlow}
 use Rattle.tandem.specs.TestLaws.{not-passed, decide}
 use Rattle.tandem.specs.SumLaws.{some-weight, no-weight}
 use Rattle.tandem.specs.OfSheet.{listed}
@@ -25,16 +25,13 @@ use Rattle.row.specs.Parts.{reachOf, Reached, placeOf, Summed}
 use Rattle.row.proofs.Filling.{padded-more}
 use Rattle.row.proofs.Reaching.{from-before, from-behind, from-next, groups-next}
 
-abbrev pub blank : Flow
-blank = record { first = 0; last = 0; burst = 0; rate = 0 }
-
 -- the paths still to come: from this first server up to this last one, and from the first servers behind it
 abbrev pub coming : Tandem → ℕ → ℕ → List Path
 coming row i l = from row i l ++ from-on row (suc i) (size row - i)
 
 pub record Listing (row : Tandem) (list : List Flow) (count i l : ℕ) : Type 0 where
   pub done : List Flow
-  pub held : list ≡ padded 32 blank done
+  pub held : list ≡ padded 32 noFlow done
   pub counted : count ≡ length done
   pub whole : done ++ map (grouped row) (coming row i l) ≡ reads row
 
@@ -69,7 +66,7 @@ module _ (row : Tandem) (ok : Listed row) where
   unfolding reads
   few-reads = omega (arith, ok .few, length-map (groups row) (grouped row))
 
-  pub begin-listing : (w : Flow) → w ≡ flow row 0 → (l : ℕ) → l ≡ reachOf row 1 (length (row .flows)) → Listing row (set (replicate 32 blank) 0 w) 1 1 l
+  pub begin-listing : (w : Flow) → w ≡ flow row 0 → (l : ℕ) → l ≡ reachOf row 1 (length (row .flows)) → Listing row (set (replicate 32 noFlow) 0 w) 1 1 l
   unfolding reads
   begin-listing w e l q =
       record { done = w ∷ []; held = refl; counted = refl; whole = rw (e, q, groups-next row (ok .inside)) }
@@ -118,8 +115,8 @@ module _ (row : Tandem) (ok : Listed row) where
       list-path g e = record {
         done = v .done ++ (g ∷ []);
         held =
-            ap (λ (t : List Flow). set t count g) (v .held) ∙ ap (λ (n : ℕ). set (padded 32 blank (v .done)) n g) (v .counted)
-            ∙ padded-more 32 blank (v .done) g (omega (arith, v .counted, room));
+            ap (λ (t : List Flow). set t count g) (v .held) ∙ ap (λ (n : ℕ). set (padded 32 noFlow (v .done)) n g) (v .counted)
+            ∙ padded-more 32 noFlow (v .done) g (omega (arith, v .counted, room));
         counted = omega (arith, v .counted, length-append (v .done) (g ∷ []));
         whole = append-assoc (v .done) (g ∷ []) (map (grouped row) (coming row i (l - 1))) ∙ rw e more;
       }
@@ -131,14 +128,14 @@ module _ (row : Tandem) (ok : Listed row) where
 
   -- behind the last server all is listed
   pub end-listing : (list : List Flow) (count i l : ℕ) → Listing row list count i l → size row < i
-      → (list ≡ padded 32 blank (reads row)) × (count ≡ length (reads row))
+      → (list ≡ padded 32 noFlow (reads row)) × (count ≡ length (reads row))
   unfolding from-on
   end-listing list count i l v h =
       let z : size row - i ≡ 0 = omega arith in
       let n : coming row i l ≡ [] =
       ap (λ (t : List Path). t ++ from-on row (suc i) (size row - i)) (from-behind row (ok .inside) i l h) ∙ ap (λ (m : ℕ). from-on row (suc i) m) z in
       let e : v .done ≡ reads row = sym (append-nil (v .done)) ∙ ap (λ (t : List Path). v .done ++ map (grouped row) t) (sym n) ∙ v .whole in
-      (v .held ∙ ap (padded 32 blank) e, v .counted ∙ ap length e)
+      (v .held ∙ ap (padded 32 noFlow) e, v .counted ∙ ap length e)
 
 -- what the loop needs of lent lists
 pub lent-listed : (servers : List ℕ) (size : ℕ) (flows : List ℕ) (n : ℕ) → Lent servers size flows n → length (groups (tandemIn servers size flows n)) ≤ 31

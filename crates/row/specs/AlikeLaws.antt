@@ -12,7 +12,7 @@ use borrow.Author.Tests.{lt-ltb, ltb-true, le-leb, leb-true, eq-eqb, eqb-true}
 use Rattle.tandem.specs.declared.Server.{Server}
 use Rattle.tandem.specs.declared.Flow.{Flow}
 use Rattle.tandem.specs.Sums.{weigh, total, any}
-use Rattle.tandem.specs.Tandem.{Tandem, Path, size, server, flow, crosses, on, rates}
+use Rattle.tandem.specs.Tandem.{Tandem, Path, size, server, flow, crosses, on, rates, noServer}
 use Rattle.row.specs.Groups.{used, path, from, from-on, groups, grouped, reads}
 use Rattle.tandem.specs.Crowded.{crowded, lowestCrowded}
 use Rattle.row.specs.Checks.{overlaps, notNested, tooMany}
@@ -177,7 +177,7 @@ pub crowded-same : (row other : Tandem) → row .servers ≡ other .servers → 
     → crowded row j ≡ crowded other j
 unfolding crowded crosses
 crowded-same row other s a i k j =
-    let z : server row j ≡ server other j = ap (λ (l : List Server). getD l (j - 1) (record { rate = 0; latency = 0 })) s in
+    let z : server row j ≡ server other j = ap (λ (l : List Server). getD l (j - 1) noServer) s in
     let n : size row ≡ size other = ap length s in
     let W = suc (size row) in
     let x = rates-by-path row W (λ f h. (omega (arith, i f h .0), omega (arith, i f h .1))) (a .some) j in

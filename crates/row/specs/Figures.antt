@@ -18,7 +18,7 @@ use Rattle.tandem.specs.declared.Flow.{Flow}
 use Rattle.row.specs.declared.Check.{Check}
 use Rattle.row.specs.declared.Check.the-variants.{Passed, Crossing, Crowded, Points}
 use Rattle.tandem.specs.Sums.{weigh, total, any}
-use Rattle.tandem.specs.Tandem.{crosses, on, bursts, rates}
+use Rattle.tandem.specs.Tandem.{crosses, on, bursts, rates, noFlow, noServer}
 use Rattle.row.specs.Groups.{used, from, from-on, groups, grouped, reads}
 use Rattle.tandem.specs.Crowded.{crowded, lowestCrowded}
 use Rattle.row.specs.Checks.{overlaps, notNested, tooMany}
@@ -45,10 +45,10 @@ abbrev pub row7 : Row
 row7 =
     record {
       size = 1;
-      servers = record { rate = 10; latency = 0 } ∷ replicate 15 (record { rate = 0; latency = 0 });
+      servers = record { rate = 10; latency = 0 } ∷ replicate 15 noServer;
       count = 2;
       groups = record { first = 1; last = 1; burst = 12; rate = 4 } ∷ record { first = 1; last = 1; burst = 10; rate = 6 } ∷ replicate 30
-          (record { first = 0; last = 0; burst = 0; rate = 0 });
+          noFlow;
       mode = 0;
       grid = 4;
     }
@@ -170,7 +170,7 @@ mixed-reads = refl
 pub mixed-row : (formedOf mixed .row .grid ≡ 3) × (formedOf mixed .row .mode ≡ 1) × (formedOf mixed .row .count ≡ 6)
     × (formedOf mixed .row .servers
     ≡ record { rate = 50; latency = 1 } ∷ record { rate = 60; latency = 2 } ∷ record { rate = 70; latency = 3 } ∷ replicate 13
-    (record { rate = 0; latency = 0 }))
+    noServer)
 unfolding total any crosses on bursts rates used from from-on groups grouped reads overlaps notNested crowded lowestCrowded tooMany listed tandemOf
     gridOf rowOf checkOf formedOf
 mixed-row = (refl, refl, refl, refl)

@@ -2,7 +2,7 @@
 -- Assumes nothing.
 use mathlib.Core.Path.{_≡_, refl}
 use mathlib.Core.Bool.{Bool, true, false, cond}
-use mathlib.Core.List.{List}
+use mathlib.Core.List.{List, _++_}
 use mathlib.Core.Logic.{_⊎_, inl, inr}
 use Prim.Native.Nat.{ℕ, _≤_, _<_}
 use native.Mathlib.Omega.{arith}
@@ -22,6 +22,9 @@ use Rattle.row.specs.OfSheet.{gridOf, rowOf, checkOf, formedOf}
 use Rattle.row.specs.Passed.{PassedRow}
 use Rattle.row.specs.CheckLaws.{accepted-row}
 use Rattle.tandem.specs.OfSheetLaws.{limits, sound}
+use Rattle.tandem.specs.Lent.{spreadServers, spreadFlows}
+use Rattle.tandem.specs.LentLaws.{sheet-spread, sheet-room, sheet-lent}
+use Rattle.row.specs.Parts.{Formable}
 
 pub accepted : (xs : List ℕ) → Valid xs → notNested (tandemOf xs) ≡ false → lowestCrowded (tandemOf xs) 1 (size (tandemOf xs)) ≡ 0 → Accepted (tandemOf xs)
 accepted xs v n c = accepted-row (tandemOf xs) (sound xs v c) n
@@ -79,3 +82,13 @@ grid-range xs v = go (eqb (grid xs) 0) refl (v .grids)
     go true t w = (omega arith, omega arith)
     go false t (inl w) = absurd (eqb-false (grid xs) 0 t w)
     go false t (inr w) = (w .least, w .most)
+
+-- what `form` asks holds of the lists of every valid sheet's row that passes 7, whatever stands behind the row's numbers
+pub sheet-formable : (xs servers flows more rest : List ℕ) → Valid xs → servers ≡ spreadServers (tandemOf xs .servers) ++ more
+    → flows ≡ spreadFlows (tandemOf xs .flows) ++ rest → lowestCrowded (tandemOf xs) 1 (size (tandemOf xs)) ≡ 0
+    → Formable servers (serverCount xs) flows (length (tandemOf xs .flows)) (gridOf (serverCount xs) (grid xs))
+sheet-formable xs servers flows more rest v s f c =
+    let is = sheet-spread xs servers flows more rest s f in
+    let room = sheet-room xs servers flows more rest s f in
+    let g = grid-range xs v in
+    record { lent = sheet-lent xs servers flows v is (room .0) (room .1) c; coarse = g .0; dense = g .1 }

@@ -11,7 +11,7 @@ use Rattle.row.specs.declared.Grouped.{Grouped}
 use Rattle.row.specs.declared.Check.{Check}
 use Rattle.row.specs.declared.Formed.{Formed}
 use Rattle.tandem.specs.Sums.{weigh, total, any}
-use Rattle.tandem.specs.Tandem.{Tandem, flow, on}
+use Rattle.tandem.specs.Tandem.{Tandem, flow, on, noFlow}
 use Rattle.tandem.specs.Lent.{alone, Lent}
 use Rattle.row.specs.Groups.{path, reads}
 use Rattle.row.specs.Checks.{notNested}
@@ -32,6 +32,12 @@ pub record Groupable (servers : List ℕ) (size : ℕ) (flows : List ℕ) (n : �
   pub lent : Lent servers size flows n
   pub reached : Reached (alone flows n) n reaches
   pub nested : notNested (alone flows n) ≡ false
+
+-- what `form` asks: lists that hold a row whose rates fit, and a grid of 2..9
+pub record Formable (servers : List ℕ) (size : ℕ) (flows : List ℕ) (n grid : ℕ) : Type 0 where
+  pub lent : Lent servers size flows n
+  pub coarse : 2 ≤ grid
+  pub dense : grid ≤ 9
 
 -- check 6 by them, of one flow: one of the first n flows begins behind its first server, up to its last, and ends behind it
 unfoldable pub overreached : Tandem → ℕ → ℕ → Bool
@@ -57,7 +63,7 @@ unfoldable pub groupedFor : Tandem → Grouped
 groupedFor row =
     record {
       count = length (reads row);
-      groups = padded 32 (record { first = 0; last = 0; burst = 0; rate = 0 }) (reads row);
+      groups = padded 32 noFlow (reads row);
     }
 
 -- an answer without a row

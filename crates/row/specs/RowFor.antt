@@ -10,7 +10,7 @@ use Rattle.row.specs.declared.Row.{Row}
 use Rattle.row.specs.declared.Check.{Check}
 use Rattle.row.specs.declared.Check.the-variants.{Passed, Crossing, Crowded, Points}
 use Rattle.row.specs.declared.Formed.{Formed}
-use Rattle.tandem.specs.Tandem.{Tandem, size}
+use Rattle.tandem.specs.Tandem.{Tandem, size, noFlow, noServer}
 use Rattle.tandem.specs.Crowded.{lowestCrowded}
 use Rattle.row.specs.Groups.{groups, reads}
 use Rattle.row.specs.Checks.{notNested, tooMany}
@@ -24,9 +24,9 @@ abbrev pub rowFor : Tandem → ℕ → ℕ → Row
 rowFor row mode g =
     record {
       size = size row;
-      servers = padded 16 (record { rate = 0; latency = 0 }) (row .servers);
+      servers = padded 16 noServer (row .servers);
       count = length (reads row);
-      groups = padded 32 (record { first = 0; last = 0; burst = 0; rate = 0 }) (reads row);
+      groups = padded 32 noFlow (reads row);
       mode = mode;
       grid = g;
     }
@@ -41,9 +41,9 @@ abbrev pub noRow : Row
 noRow =
     record {
       size = 0;
-      servers = replicate 16 (record { rate = 0; latency = 0 });
+      servers = replicate 16 noServer;
       count = 0;
-      groups = replicate 32 (record { first = 0; last = 0; burst = 0; rate = 0 });
+      groups = replicate 32 noFlow;
       mode = 0;
       grid = 0;
     }

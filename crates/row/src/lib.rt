@@ -7,11 +7,11 @@ ghost use lib.ListN.{length, getD, replicate};
 ghost use Rattle.sheet.specs.Valid.{Valid};
 ghost use Rattle.tandem.specs.OfSheet.{listed};
 ghost use Rattle.tandem.specs.Sums.{any};
-ghost use Rattle.tandem.specs.Lent.{serverIn, tandemIn, alone, Laid, Lent};
+ghost use Rattle.tandem.specs.Lent.{serverIn, tandemIn, alone, Laid};
 ghost use Rattle.row.specs.Groups.{groups};
 ghost use Rattle.row.specs.RowFor.{padded, rowFor, formedFor};
 ghost use Rattle.row.specs.OfSheet.{gridOf};
-ghost use Rattle.row.specs.Parts.{Reached, Groupable, amount, placeOf, Summed, groupedFor, refusedBy};
+ghost use Rattle.row.specs.Parts.{Reached, Groupable, Formable, amount, placeOf, Summed, groupedFor, refusedBy};
 ghost use Rattle.row.specs.Contract.{ReachesOf, IsNotNested, Form, RowOf};
 use tandem::Flow;
 use tandem::Server;
@@ -306,7 +306,7 @@ fn with_groups(
 
 // Checks 6 and 8 of a row whose rates fit, and the row.
 pub fn form(servers: &[u64], size: usize, flows: &[u64], n: usize, mode: u32, grid: usize) -> Formed
-    requires { ⌜ Lent (now servers) size (now flows) n × (2 ≤ grid) × (grid ≤ 9) ⌝ }
+    requires { ⌜ Formable (now servers) size (now flows) n grid ⌝ }
     ensures { λ r. ⌜ Form (now (servers .entry)) size (now (flows .entry)) n mode grid r ⌝ }
 {
     let reaches = reaches_of(flows, n);

@@ -35,7 +35,7 @@ use Rattle.runs.specs.Run.{Run, Keeps, joinedBy, leftBy}
 use Rattle.runs.specs.Demand.{OnTime, boundOf}
 use Rattle.runs.specs.RunTests.{each, eachOf, begins, same, has, onPath, inOrder, relayed, keepsBuckets, guarantees, keepsAll}
 use Rattle.runs.specs.RunTestLaws.{on-path, in-order, relay-kept, buckets-kept, guarantees-kept, keeps-all, has-is, has-not}
-use Rattle.runs.specs.RunLaws.{bucket-after}
+use Rattle.curves.specs.SlotsLaws.{bucket-after}
 use Rattle.runs.specs.DemandLaws.{demand-three}
 use Rattle.runs.specs.Mistakes.{highest, runningLeft, burstSheet, burstRun, SameBytes, KeepsSlots, turnSheet, turnEnters, turnSlots, between}
 use Rattle.runs.specs.Mistakes.{straightRun, turnRun, turnTaken}

@@ -8,16 +8,12 @@ use native.Mathlib.Omega.{arith}
 use lib.Dec.{eqb}
 use lib.ListN.{length, length-append}
 use Rattle.curves.specs.Slots.{bucket}
+use Rattle.curves.specs.SlotsLaws.{bucket-after}
 use Rattle.tandem.specs.Sums.{weigh, total}
 use Rattle.tandem.specs.SumLaws.{total-mono, total-scale}
 use Rattle.runs.specs.Lines.{keep, by, Prefix}
 use Rattle.runs.specs.Run.{Bucketed}
 use Rattle.runs.specs.LinesLaws.{keep-append, by-prefix, number-le}
-
-pub bucket-after : (σ ρ t : ℕ) → 0 < t → bucket σ ρ t ≡ σ + ρ * t
-unfolding bucket
-bucket-after σ ρ zero h = absurd (omega arith)
-bucket-after σ ρ (suc t) h = refl
 
 -- over one slot or more
 pub bucketed-after : {B : Type 0} (H : ℕ) (p : B → Bool) (line : ℕ → List B) (σ ρ : ℕ) → Bucketed H p line σ ρ

@@ -1,7 +1,7 @@
 -- The line of a number: a text that says more than i numbers is wrong where there is room for i only, for it has one number too many, and
 -- the line that is then given is the line in which number i, counted from 0, ends.
 -- Assumes nothing.
-use Prim.Native.Nat.{ℕ, zero, suc, _+_, _<_}
+use Prim.Native.Nat.{ℕ, zero, suc, _<_}
 use mathlib.Core.Path.{_≡_, refl, ap}
 use mathlib.Core.List.{List, [], _∷_, _++_}
 use native.Mathlib.Omega.{arith}

@@ -9,6 +9,7 @@ use native.Mathlib.Nat.{mod-lt}
 use native.Mathlib.Omega.{arith}
 use lib.ListN.{length, take, drop, getD, replicate, length-replicate, length-take, length-drop, length-map}
 use lib.Seq.{take-all, take-at, getD-take, length-take-le}
+use Rattle.tandem.specs.Tandem.{noFlow}
 use Rattle.curves.specs.declared.Curve.{Curve}
 use Rattle.curves.specs.Curve.{Shape, Rates}
 use Rattle.curves.specs.Held.{Holds}
@@ -19,7 +20,7 @@ use Rattle.tandem.specs.OfSheet.{listed}
 use Rattle.row.specs.RowFor.{padded}
 use Rattle.tandem.specs.OfSheetLaws.{listed-at}
 use Rattle.tree.specs.Plan.{Node, plan}
-use Rattle.tree.specs.Planned.{noFlow, answerOf}
+use Rattle.tree.specs.Planned.{answerOf}
 use Rattle.tree.specs.Fine.{AllFine}
 use Rattle.tree.specs.Amounts.{sumOf}
 use Rattle.tree.specs.PruneLaws.{latenciesOf}

@@ -9,7 +9,7 @@ use lib.ListN.{length, getD, replicate, length-map, List·getD-append}
 use lib.Seq.{take-append-seam}
 use Rattle.tandem.specs.declared.Server.{Server}
 use Rattle.tandem.specs.declared.Flow.{Flow}
-use Rattle.tandem.specs.Tandem.{Tandem, size, server, flow}
+use Rattle.tandem.specs.Tandem.{Tandem, size, server, flow, noFlow, noServer}
 use Rattle.tandem.specs.Sound.{Limits}
 use Rattle.row.specs.declared.Row.{Row}
 use Rattle.row.specs.Groups.{groups, grouped, reads}
@@ -17,7 +17,7 @@ use Rattle.row.specs.Accepted.{Accepted}
 use Rattle.row.specs.CountLaws.{few-groups}
 use Rattle.row.specs.RowFor.{rowFor}
 use Rattle.tree.specs.Grid.{Answer}
-use Rattle.tree.specs.Planned.{noFlow, answerOf}
+use Rattle.tree.specs.Planned.{answerOf}
 use Rattle.tree.specs.PlanLaws.{plan-answers}
 use Rattle.tree.specs.Bound as tree
 use Rattle.tree.specs.SizeLaws.{start-small, plan-fine}
@@ -32,15 +32,15 @@ use Rattle.point.specs.Point.{serversOf, flowsOf, Shaped}
 use Rattle.search.specs.Point.{searched}
 use Rattle.search.specs.Searchable.{startOf, Searchable}
 
-server-at : (row : Tandem) (k : ℕ) → server row (suc k) ≡ getD (row .servers) k (record { rate = 0; latency = 0 })
+server-at : (row : Tandem) (k : ℕ) → server row (suc k) ≡ getD (row .servers) k noServer
 server-at row k = let e : suc k - 1 ≡ k = omega arith in rw e
 
-each-server : (P : Server → Type 0) (l : List Server) → ((k : ℕ) → k < length l → P (getD l k (record { rate = 0; latency = 0 }))) → Each P l
+each-server : (P : Server → Type 0) (l : List Server) → ((k : ℕ) → k < length l → P (getD l k noServer)) → Each P l
 each-server P [] h = tt
 each-server P (s ∷ l) h = (h 0 (omega arith), each-server P l (λ k p. h (suc k) (omega arith)))
 
 -- the latencies of servers, none above m
-latencies-most : (m : ℕ) (l : List Server) → ((k : ℕ) → getD l k (record { rate = 0; latency = 0 }) .latency ≤ m) → sumOf (latenciesOf l) ≤ length l * m
+latencies-most : (m : ℕ) (l : List Server) → ((k : ℕ) → getD l k noServer .latency ≤ m) → sumOf (latenciesOf l) ≤ length l * m
 unfolding sumOf
 latencies-most m [] h = omega arith
 latencies-most m (s ∷ l) h = omega (arith, h 0, latencies-most m l (λ k. h (suc k)), suc-mul (length l) m)

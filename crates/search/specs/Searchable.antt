@@ -4,13 +4,13 @@ use mathlib.Core.Path.{_≡_}
 use mathlib.Core.List.{List}
 use Prim.Native.Nat.{ℕ, _-_, _≤_, _<_, _^_}
 use lib.ListN.{length, getD, replicate}
+use Rattle.tandem.specs.Tandem.{noFlow}
 use Rattle.row.specs.declared.Row.{Row}
 use Rattle.row.specs.RowFor.{padded}
 use Rattle.ground.specs.Each.{Each}
 use Rattle.tree.specs.Amounts.{sumOf}
 use Rattle.tree.specs.PruneLaws.{latenciesOf}
 use Rattle.tree.specs.Grid.{Answer}
-use Rattle.tree.specs.Planned.{noFlow}
 use Rattle.tree.specs.Ordered.{Workable}
 use Rattle.point.specs.Point.{serversOf, flowsOf, answerAt, Shaped}
 use Rattle.search.specs.declared.Found.{Found}

@@ -3,10 +3,10 @@
 ghost use mathlib.Core.Path.{_≡_};
 ghost use Prim.Native.Nat.{ℕ, _+_, _-_, _≤_, _<_, _^_};
 ghost use lib.ListN.{length, getD, drop};
+ghost use Rattle.tandem.specs.Tandem.{noFlow};
 ghost use Rattle.curves.specs.Held.{Holds};
 ghost use Rattle.tree.specs.Amounts.{sumOf};
 ghost use Rattle.tree.specs.PruneLaws.{latenciesOf};
-ghost use Rattle.tree.specs.Planned.{noFlow};
 ghost use Rattle.ground.specs.Each.{Each};
 ghost use Rattle.curves.specs.Part.{changed};
 ghost use Rattle.keys.specs.Left.{rowCurve, burstsOn};

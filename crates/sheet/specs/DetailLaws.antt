@@ -1,7 +1,7 @@
 -- How far a refusal's place, the count of a sheet's numbers and the length of its bytes reach: every detail is below 2^32.
 -- Assumes nothing.
 use Prim.Native.Nat.{ℕ, zero, suc, _+_, _*_, _≤_, _<_}
-use mathlib.Core.Path.{_≡_, refl, sym, _∙_}
+use mathlib.Core.Path.{_≡_, refl}
 use mathlib.Core.List.{List, [], _∷_}
 use mathlib.Core.Bool.{Bool, true, false, cond}
 use native.Mathlib.Nat.{mul-suc}
@@ -15,16 +15,13 @@ use Rattle.numbers.specs.declared.Got.the-variants as got
 use Rattle.fields.specs.Rule.{Seen, most, ruleAt, seenAfter, nothing}
 use Rattle.fields.specs.declared.User.{User}
 use Rattle.fields.specs.declared.User.the-variants.{Reader, Writer}
-use Rattle.fields.specs.declared.Step.{Step}
-use Rattle.fields.specs.declared.Step.the-variants.{Value, Stop, End}
 use Rattle.fields.specs.declared.Outcome.the-variants.{Done, Refused}
 use Rattle.fields.specs.declared.Why.{Why}
 use Rattle.fields.specs.declared.Why.the-variants.{Short}
 use Rattle.fields.specs.Refusal.{detail}
-use Rattle.fields.specs.Step.{stepOn}
-use Rattle.sheet.specs.Sheet.{Found, fail, these, also, onStep, walk, sheetOf, entryAt, listOf, encodeAll, readGives, writeGives, gives}
+use Rattle.sheet.specs.Sheet.{Found, fail, these, walk, sheetOf, entryAt, listOf, encodeAll, readGives, writeGives, gives}
 use Rattle.fields.specs.PlaceLaws.{Small, past-late, small-after}
-use Rattle.fields.specs.StepLaws.{Gave, step-gave, step-stopped}
+use Rattle.fields.specs.StepLaws.{step-stopped}
 use Rattle.sheet.specs.EntryLaws.{Entry, entry-was}
 use Rattle.sheet.specs.WalkLaws.{Walked, gave, ended, walked, walk-none, Stopped, behind, here, stopped}
 

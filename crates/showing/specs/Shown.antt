@@ -4,7 +4,7 @@ use Prim.Native.Nat.{ℕ, zero, suc}
 use mathlib.Core.List.{List, [], _∷_, _++_}
 use lib.ListN.{length, getD}
 use Rattle.fields.specs.Refusal.{refusal}
-use Rattle.sheet.specs.Sheet.{Found, fail, these, sheetOf}
+use Rattle.sheet.specs.Sheet.{Found, fail, these}
 use Rattle.text.specs.declared.Printed.{Printed}
 use Rattle.text.specs.declared.Printed.the-variants.{Answer, Refusal}
 use Rattle.text.specs.Decimal.{decimal}

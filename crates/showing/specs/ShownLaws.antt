@@ -2,7 +2,7 @@
 -- Assumes nothing.
 use Prim.Native.Nat.{ℕ, zero, suc, _+_, _*_, _≤_}
 use mathlib.Core.Path.{_≡_, refl, ap}
-use mathlib.Core.List.{List, [], _∷_, _++_}
+use mathlib.Core.List.{List}
 use native.Mathlib.Omega.{arith}
 use lib.ListN.{length, getD, length-append}
 use Rattle.fields.specs.Refusal.{refusal}
@@ -11,12 +11,12 @@ use Rattle.sheet.specs.ValidLaws.{read-valid, valid-length}
 use Rattle.text.specs.declared.Printed.{Printed}
 use Rattle.text.specs.Decimal.{decimal}
 use Rattle.text.specs.DecimalLaws.{decimal-few}
-use Rattle.text.specs.Lines.{lineEnd, bytesOf}
+use Rattle.text.specs.Lines.{bytesOf}
 use Rattle.text.specs.LinesLaws.{refusal-short}
 use Rattle.naming.specs.Names.{extentIn, nameAt}
 use Rattle.naming.specs.NamesLaws.{name-at-short}
 use Rattle.showing.specs.Contract.{Show}
-use Rattle.showing.specs.Shown.{hashWord, numberLine, linesFrom, shown, showText, showPrinted, sheetPage}
+use Rattle.showing.specs.Shown.{numberLine, linesFrom, shown, showText, showPrinted, sheetPage}
 
 pub line-length : (xs : List ℕ) (i : ℕ) → length (numberLine xs i) ≡ length (decimal (getD xs i 0)) + (3 + (length (nameAt i (extentIn xs)) + 1))
 unfolding numberLine

@@ -1,7 +1,7 @@
 // A sheet as text: a line for each number, with the name of its field.
 ghost use mathlib.Core.Path.{_≡_};
 ghost use Prim.Native.Nat.{_+_, _≤_, _<_};
-ghost use lib.ListN.{length, getD};
+ghost use lib.ListN.{length};
 ghost use lib.Seq.{sets};
 ghost use Rattle.sheet.specs.Sheet.{sheetOf};
 ghost use Rattle.sheet.specs.Valid.{Valid};

@@ -5,8 +5,9 @@ use mathlib.Core.List.{List, [], _∷_, _++_, append-assoc}
 use Prim.Native.Nat.{ℕ, suc, _+_, _*_, _≤_, _<_}
 use native.Mathlib.Numerals.{add-one}
 use native.Mathlib.Omega.{arith}
-use lib.ListN.{length, getD, set, take, drop, length-append, length-drop, length-set}
-use lib.Seq.{take-suc, take-length, length-take-le}
+use lib.ListN.{length, getD, set, take, drop, length-append, length-drop}
+use lib.Seq.{take-suc, length-take-le}
+use Rattle.tandem.specs.Tandem.{noFlow, noServer}
 use Rattle.sheet.specs.Valid.{serverCount}
 use Rattle.tandem.specs.declared.Server.{Server}
 use Rattle.tandem.specs.declared.Flow.{Flow}
@@ -38,7 +39,7 @@ front-more p e l i x f n h =
 
 -- one server more
 pub front-server : (ss : List Server) (e l : List ℕ) (j : ℕ) (s : Server) → Front (spreadServers (take j ss)) e l → j < length ss → 2 * length ss ≤ length e
-    → s ≡ getD ss j (record { rate = 0; latency = 0 }) → Front (spreadServers (take (j + 1) ss)) e (set (set l (2 * j) (s .rate)) (2 * j + 1) (s .latency))
+    → s ≡ getD ss j noServer → Front (spreadServers (take (j + 1) ss)) e (set (set l (2 * j) (s .rate)) (2 * j + 1) (s .latency))
 front-server ss e l j s f h r q =
     let p = spreadServers (take j ss) in
     let n : length p ≡ 2 * j = omega (arith, spread-servers-length (take j ss), length-take-le j ss (omega arith)) in
@@ -46,14 +47,14 @@ front-server ss e l j s f h r q =
     let m : length (p ++ (s .rate ∷ [])) ≡ 2 * j + 1 = omega (arith, length-append p (s .rate ∷ [])) in
     let b = front-more (p ++ (s .rate ∷ [])) e _ (2 * j + 1) (s .latency) a m (omega arith) in
     let t : spreadServers (take (j + 1) ss) ≡ (p ++ (s .rate ∷ [])) ++ (s .latency ∷ []) =
-    ap (λ (k : ℕ). spreadServers (take k ss)) (add-one j) ∙ ap spreadServers (take-suc ss j (record { rate = 0; latency = 0 }) h)
+    ap (λ (k : ℕ). spreadServers (take k ss)) (add-one j) ∙ ap spreadServers (take-suc ss j noServer h)
     ∙ ap (λ (z : Server). spreadServers (take j ss ++ (z ∷ []))) (sym q) ∙ spread-servers-more (take j ss) s
     ∙ sym (append-assoc p (s .rate ∷ []) (s .latency ∷ [])) in
     rw t b
 
 -- one flow more
 pub front-flow : (fs : List Flow) (e l : List ℕ) (k : ℕ) (f : Flow) → Front (spreadFlows (take k fs)) e l → k < length fs → 4 * length fs ≤ length e
-    → f ≡ getD fs k (record { first = 0; last = 0; burst = 0; rate = 0 })
+    → f ≡ getD fs k noFlow
     → Front (spreadFlows (take (k + 1) fs)) e (set (set (set (set l (4 * k) (f .first)) (4 * k + 1) (f .last)) (4 * k + 2) (f .burst)) (4 * k + 3) (f .rate))
 front-flow fs e l k f d h r q =
     let p = spreadFlows (take k fs) in
@@ -69,7 +70,7 @@ front-flow fs e l k f d h r q =
     let nc : length pc ≡ 4 * k + 3 = omega (arith, length-append pb (f .burst ∷ [])) in
     let g = front-more pc e _ (4 * k + 3) (f .rate) c nc (omega arith) in
     let t : spreadFlows (take (k + 1) fs) ≡ pc ++ (f .rate ∷ []) =
-    ap (λ (i : ℕ). spreadFlows (take i fs)) (add-one k) ∙ ap spreadFlows (take-suc fs k (record { first = 0; last = 0; burst = 0; rate = 0 }) h)
+    ap (λ (i : ℕ). spreadFlows (take i fs)) (add-one k) ∙ ap spreadFlows (take-suc fs k noFlow h)
     ∙ ap (λ (z : Flow). spreadFlows (take k fs ++ (z ∷ []))) (sym q) ∙ spread-flows-more (take k fs) f
     ∙ sym (append-assoc p (f .first ∷ []) (f .last ∷ f .burst ∷ f .rate ∷ []))
     ∙ sym (append-assoc pa (f .last ∷ []) (f .burst ∷ f .rate ∷ []))
@@ -77,6 +78,6 @@ front-flow fs e l k f d h r q =
     rw t g
 
 -- server j of the sheet's row
-pub server-listed : (xs : List ℕ) (j : ℕ) → j < serverCount xs → serverOf xs j ≡ getD (tandemOf xs .servers) j (record { rate = 0; latency = 0 })
+pub server-listed : (xs : List ℕ) (j : ℕ) → j < serverCount xs → serverOf xs j ≡ getD (tandemOf xs .servers) j noServer
 unfolding tandemOf
-server-listed xs j h = sym (listed-at (serverCount xs) (serverOf xs) j (record { rate = 0; latency = 0 }) h)
+server-listed xs j h = sym (listed-at (serverCount xs) (serverOf xs) j noServer h)

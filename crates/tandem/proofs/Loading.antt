@@ -99,7 +99,7 @@ module _ {xs : List ℕ} {f : ℕ} {loads : List ℕ} {a : Flow} (d : Carrying x
   abbrev row : Tandem
   row = tandemOf xs
 
-  pub path-of : Ranged (serverCount xs) a
+  pub path-of : Ranged (serverCount xs) 65535 a
   path-of = rw (d .is) (ranged xs (d .sheet) f (d .here))
 
   -- at most 49 rates of at most 65,535

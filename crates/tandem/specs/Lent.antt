@@ -6,6 +6,7 @@ use lib.ListN.{length, getD}
 use Rattle.tandem.specs.declared.Server.{Server}
 use Rattle.tandem.specs.declared.Flow.{Flow}
 use Rattle.tandem.specs.Tandem.{Tandem}
+use Rattle.tandem.specs.Ranges.{Ranged}
 use Rattle.tandem.specs.Sound.{Sound, Limits}
 use Rattle.tandem.specs.OfSheet.{listed}
 
@@ -38,14 +39,9 @@ unfoldable pub spreadFlows : List Flow → List ℕ
 spreadFlows [] = []
 spreadFlows (f ∷ fs) = f .first ∷ f .last ∷ f .burst ∷ f .rate ∷ spreadFlows fs
 
--- the ranges of a flow in a row of n servers, wider than a sheet's so that flows that are cut or grown fit too
-pub record Wide (n : ℕ) (f : Flow) : Type 0 where
-  pub begins : 1 ≤ f .first
-  pub path : f .first ≤ f .last
-  pub ends : f .last ≤ n
-  pub small-burst : f .burst ≤ 16777215
-  pub moves : 1 ≤ f .rate
-  pub small-rate : f .rate ≤ 65535
+-- the ranges of a flow, wider than a sheet's so that flows that are cut or grown fit too
+abbrev pub Wide : ℕ → Flow → Type 0
+Wide n f = Ranged n 16777215 f
 
 -- m flows in a list, of a row of n servers
 pub record Laid (n : ℕ) (flows : List ℕ) (m : ℕ) : Type 0 where

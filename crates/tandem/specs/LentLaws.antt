@@ -9,7 +9,7 @@ use lib.Seq.{take-suc, take-length, drop-cons, set-at}
 use Rattle.sheet.specs.Valid.{Valid, serverCount}
 use Rattle.tandem.specs.declared.Server.{Server}
 use Rattle.tandem.specs.declared.Flow.{Flow}
-use Rattle.tandem.specs.Tandem.{Tandem, size, flow}
+use Rattle.tandem.specs.Tandem.{Tandem, size, flow, noFlow, noServer}
 use Rattle.tandem.specs.Crowded.{lowestCrowded}
 use Rattle.tandem.specs.Sound.{Sound, Limits}
 use Rattle.tandem.specs.OfSheet.{listed, tandemOf}
@@ -31,7 +31,7 @@ listed-all f l d e = listed-take (length l) f l d (omega arith) e ∙ take-lengt
 
 -- the flows of a list by number
 pub flow-held : (flows : List ℕ) (n f : ℕ) → f < n → flow (alone flows n) f ≡ lentFlow flows f
-flow-held flows n f h = listed-at n (lentFlow flows) f (record { first = 0; last = 0; burst = 0; rate = 0 }) h
+flow-held flows n f h = listed-at n (lentFlow flows) f noFlow h
 
 pub count-held : (flows : List ℕ) (n : ℕ) → length (alone flows n .flows) ≡ n
 count-held flows n = length-listed n (lentFlow flows)
@@ -60,7 +60,7 @@ spread-flows-more (g ∷ fs) f = ap (λ (l : List ℕ). g .first ∷ g .last ∷
 
 -- what stands in a list into which servers, or flows, were spread
 server-spread : (ss : List Server) (rest : List ℕ) (j : ℕ) → j < length ss
-    → serverIn (spreadServers ss ++ rest) j ≡ getD ss j (record { rate = 0; latency = 0 })
+    → serverIn (spreadServers ss ++ rest) j ≡ getD ss j noServer
 unfolding spreadServers
 server-spread [] rest j h = absurd (omega arith)
 server-spread (s ∷ ss) rest zero h = refl
@@ -73,7 +73,7 @@ server-spread (s ∷ ss) rest (suc j) h =
     ∙ server-spread ss rest j (omega arith)
 
 flow-spread : (fs : List Flow) (rest : List ℕ) (k : ℕ) → k < length fs
-    → lentFlow (spreadFlows fs ++ rest) k ≡ getD fs k (record { first = 0; last = 0; burst = 0; rate = 0 })
+    → lentFlow (spreadFlows fs ++ rest) k ≡ getD fs k noFlow
 unfolding spreadFlows
 flow-spread [] rest k h = absurd (omega arith)
 flow-spread (f ∷ fs) rest zero h = refl
@@ -91,10 +91,10 @@ flow-spread (f ∷ fs) rest (suc k) h =
     ∙ flow-spread fs rest k (omega arith)
 
 servers-spread : (ss : List Server) (rest : List ℕ) → listed (length ss) (serverIn (spreadServers ss ++ rest)) ≡ ss
-servers-spread ss rest = listed-all (serverIn (spreadServers ss ++ rest)) ss (record { rate = 0; latency = 0 }) (λ j h. server-spread ss rest j h)
+servers-spread ss rest = listed-all (serverIn (spreadServers ss ++ rest)) ss noServer (λ j h. server-spread ss rest j h)
 
 flows-spread : (fs : List Flow) (rest : List ℕ) → flowsIn (spreadFlows fs ++ rest) (length fs) ≡ fs
-flows-spread fs rest = listed-all (lentFlow (spreadFlows fs ++ rest)) fs (record { first = 0; last = 0; burst = 0; rate = 0 }) (λ k h. flow-spread fs rest k h)
+flows-spread fs rest = listed-all (lentFlow (spreadFlows fs ++ rest)) fs noFlow (λ k h. flow-spread fs rest k h)
 
 -- THE LAW: lists into which a row was spread hold the row
 pub tandem-spread : (row : Tandem) (more rest : List ℕ)

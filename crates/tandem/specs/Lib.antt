@@ -14,3 +14,4 @@ pub mod Lent
 pub mod LentLaws
 pub mod Contract
 pub mod Unique
+pub mod Figures

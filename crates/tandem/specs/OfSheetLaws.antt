@@ -8,7 +8,7 @@ use native.Mathlib.Omega.{arith}
 use lib.ListN.{length, getD, length-append, List·getD-append, List·getD-eq-default}
 use lib.Seq.{getD-at}
 use Rattle.sheet.specs.Valid.{Valid, serverCount, flowCount}
-use Rattle.tandem.specs.Tandem.{size, server, flow}
+use Rattle.tandem.specs.Tandem.{size, server, flow, noFlow, noServer}
 use Rattle.tandem.specs.Crowded.{lowestCrowded}
 use Rattle.tandem.specs.Sound.{Lies, Sound, Limits}
 use Rattle.tandem.specs.OfSheet.{listed, serverOf, flowOf, watchedOf, tandemOf}
@@ -43,7 +43,7 @@ row-flows xs = omega (arith, length-listed (flowCount xs) (flowOf xs))
 -- server j of the row, counted from 1, is the sheet's server j - 1, counted from 0
 pub row-server : (xs : List ℕ) (j : ℕ) → j - 1 < serverCount xs → server (tandemOf xs) j ≡ serverOf xs (j - 1)
 unfolding tandemOf
-row-server xs j h = listed-at (serverCount xs) (serverOf xs) (j - 1) (record { rate = 0; latency = 0 }) h
+row-server xs j h = listed-at (serverCount xs) (serverOf xs) (j - 1) noServer h
 
 pub row-watched : (xs : List ℕ) → flow (tandemOf xs) 0 ≡ watchedOf xs
 unfolding tandemOf
@@ -51,10 +51,10 @@ row-watched xs = refl
 
 pub row-flow : (xs : List ℕ) (k : ℕ) → k < flowCount xs → flow (tandemOf xs) (suc k) ≡ flowOf xs k
 unfolding tandemOf
-row-flow xs k h = listed-at (flowCount xs) (flowOf xs) k (record { first = 0; last = 0; burst = 0; rate = 0 }) h
+row-flow xs k h = listed-at (flowCount xs) (flowOf xs) k noFlow h
 
 module _ (xs : List ℕ) (v : Valid xs) where
-  pub ranged : (f : ℕ) → f < length (tandemOf xs .flows) → Ranged (serverCount xs) (flow (tandemOf xs) f)
+  pub ranged : (f : ℕ) → f < length (tandemOf xs .flows) → Ranged (serverCount xs) 65535 (flow (tandemOf xs) f)
   ranged zero h = rw (row-watched xs) (record {
     begins = omega arith;
     path = v .servers .least;
@@ -82,7 +82,7 @@ module _ (xs : List ℕ) (v : Valid xs) where
       go (inl h) =
           let l : length (tandemOf xs .servers) ≤ j - 1 = omega (arith, row-size xs) in
           let e : server (tandemOf xs) j ≡ record { rate = 0; latency = 0 } =
-          List·getD-eq-default (tandemOf xs .servers) (record { rate = 0; latency = 0 }) l in
+          List·getD-eq-default (tandemOf xs .servers) noServer l in
           rw e (omega arith, omega arith)
       go (inr h) = rw (row-server xs j h) (v .rates (j - 1) h .most, v .latencies (j - 1) h .most)
 

@@ -15,16 +15,23 @@ pub record Tandem : Type 0 where
   pub servers : List Server
   pub flows : List Flow
 
+-- what stands where there is no server, or no flow
+abbrev pub noServer : Server
+noServer = record { rate = 0; latency = 0 }
+
+abbrev pub noFlow : Flow
+noFlow = record { first = 0; last = 0; burst = 0; rate = 0 }
+
 -- N
 abbrev pub size : Tandem → ℕ
 size row = length (row .servers)
 
 -- server j, counted from 1
 abbrev pub server : Tandem → ℕ → Server
-server row j = getD (row .servers) (j - 1) (record { rate = 0; latency = 0 })
+server row j = getD (row .servers) (j - 1) noServer
 
 abbrev pub flow : Tandem → ℕ → Flow
-flow row f = getD (row .flows) f (record { first = 0; last = 0; burst = 0; rate = 0 })
+flow row f = getD (row .flows) f noFlow
 
 -- flow f is one of the row's, and its path has server j
 unfoldable pub crosses : Tandem → ℕ → ℕ → Bool

@@ -3,7 +3,8 @@
 use Prim.Native.Nat.{_+_, _≤_, _<_, _^_}
 use mathlib.Core.List.{List, [], _∷_}
 use lib.ListN.{length}
-use Rattle.curves.specs.Curve.{leastWait, All, Rates}
+use Rattle.ground.specs.Each.{Each}
+use Rattle.curves.specs.Curve.{leastWait, Rates}
 use Rattle.curves.specs.Held.{Live}
 use Rattle.tandem.specs.declared.Flow.{Flow}
 use Rattle.tree.specs.Plan.{Node}
@@ -13,7 +14,7 @@ pub record Fine (n : Node) (g : Flow) : Type 0 where
   pub some : 1 ≤ length (n .curve .stages)
   pub few : length (n .curve .stages) ≤ 16
   pub near : n .curve .offset < 2 ^ 36
-  pub live : All Live (n .curve .stages)
+  pub live : Each Live (n .curve .stages)
   -- every stage has room for the group
   pub room : Rates (g .rate) (n .curve .stages)
   pub moves : 1 ≤ g .rate

@@ -1,10 +1,10 @@
 -- The grid (document 01, "Groups, tree and grid"): its points in order, and the first with the least delay.
 -- Assumes nothing.
-use Prim.Native.Nat.{ℕ, zero, suc, _+_, _-_, _*_, _/_}
-use mathlib.Core.Bool.{Bool, true, false, cond}
-use mathlib.Core.List.{List, [], _∷_, _++_, map}
+use Prim.Native.Nat.{ℕ, zero, suc, _-_, _*_, _/_}
+use mathlib.Core.Bool.{cond}
+use mathlib.Core.List.{List, [], _∷_, _++_}
 use lib.Dec.{ltb, eqb}
-use lib.ListN.{length, replicate}
+use lib.ListN.{replicate}
 use Rattle.tandem.specs.OfSheet.{listed}
 
 -- "e runs over floor(i·start / (g − 1)), i = 0..g − 1"

@@ -9,10 +9,10 @@ use native.Mathlib.Omega.{arith}
 use lib.Dec.{eqb}
 use lib.ListN.{length, getD, replicate}
 use borrow.Author.Tests.{le-ltb, ltb-false, eq-eqb, eqb-true}
-use Rattle.curves.specs.Curve.{Shape, All, Rates, after, remainder, leastWait}
+use Rattle.ground.specs.EachLaws.{each-both, each-map, each-mapped}
+use Rattle.curves.specs.Curve.{Shape, Rates, after, remainder, leastWait}
 use Rattle.curves.specs.Held.{Live, Leaves}
 use Rattle.curves.specs.HeldLaws.{leaves-after-wait}
-use Rattle.curves.specs.StageLaws.{all-weaken, all-map, all-both}
 use Rattle.curves.specs.declared.Stage.{Stage}
 use Rattle.tandem.specs.declared.Server.{Server}
 use Rattle.tandem.specs.declared.Flow.{Flow}
@@ -42,30 +42,29 @@ record Light (s : Stage) : Type 0 where
   burst : s .burst < 2 ^ 63
   rate : s .rate < 2 ^ 63
 
-light-stages : (l : List Stage) → All Light l → some (λ (s : Stage). large (s .burst) || large (s .rate)) l ≡ false
+light-stages : (l : List Stage) → Each Light l → some (λ (s : Stage). large (s .burst) || large (s .rate)) l ≡ false
 unfolding some
 light-stages [] h = refl
 light-stages (s ∷ l) h =
     neither (large (s .burst) || large (s .rate)) (some (λ (s : Stage). large (s .burst) || large (s .rate)) l)
     (neither (large (s .burst)) (large (s .rate)) (small-one (s .burst) (h .0 .burst)) (small-one (s .rate) (h .0 .rate))) (light-stages l (h .1))
 
-light-curve : (c : Shape) → c .offset < 2 ^ 63 → All Light (c .stages) → largeCurve c ≡ false
+light-curve : (c : Shape) → c .offset < 2 ^ 63 → Each Light (c .stages) → largeCurve c ≡ false
 unfolding largeCurve
 light-curve c o l =
     neither (large (c .offset)) (some (λ (s : Stage). large (s .burst) || large (s .rate)) (c .stages)) (small-one (c .offset) o) (light-stages (c .stages) l)
 
-live-light : (l : List Stage) → All Live l → All Light l
-live-light [] h = tt
-live-light (s ∷ l) h = (record { burst = omega (arith, h .0 .low); rate = omega (arith, h .0 .slow) }, live-light l (h .1))
+live-light : (l : List Stage) → Each Live l → Each Light l
+live-light l h = each-map Live Light l (λ s a. record { burst = omega (arith, a .low); rate = omega (arith, a .slow) }) h
 
 -- what a group leaves
-left-light : (c : Shape) (σ ρ θ : ℕ) → leastWait c σ ≤ θ → θ < 2 ^ 42 → All Live (c .stages) → Rates ρ (c .stages) → All Light (remainder c σ ρ θ .stages)
+left-light : (c : Shape) (σ ρ θ : ℕ) → leastWait c σ ≤ θ → θ < 2 ^ 42 → Each Live (c .stages) → Rates ρ (c .stages) → Each Light (remainder c σ ρ θ .stages)
 unfolding remainder
 left-light c σ ρ θ w h l r =
-    all-map (λ s. Live s × Leaves σ ρ (θ - c .offset) s) Light (after σ ρ (θ - c .offset)) (c .stages)
-    (λ s k. record { burst = omega (arith, k .1 .fits); rate = omega (arith, k .0 .slow) })
-    (all-both Live (Leaves σ ρ (θ - c .offset)) (λ s. Live s × Leaves σ ρ (θ - c .offset) s) (c .stages) (λ s a b. (a, b)) l
-    (leaves-after-wait c σ ρ θ w h l r))
+    let x : ℕ = θ - c .offset in
+    each-mapped Light (after σ ρ x) (c .stages)
+    (each-both Live (Leaves σ ρ x) (λ s. Light (after σ ρ x s)) (c .stages)
+    (λ s a b. record { burst = omega (arith, b .fits); rate = omega (arith, a .slow) }) l (leaves-after-wait c σ ρ θ w h l r))
 
 -- a node in range
 fine-node : (c : Shape) (g : Flow) (e : ℕ) → Fine (nodeOf c g e) g → largeNode (nodeOf c g e) ≡ false
@@ -107,7 +106,7 @@ not-some P p [] f h = tt
 not-some P p (x ∷ l) f h = let k = not-either (p x) (some p l) h in (f x (k .0), not-some P p l f (k .1))
 
 small-stages : (l : List Stage) → some (λ (s : Stage). large (s .burst) || large (s .rate)) l ≡ false
-    → All (λ s. (s .burst ≤ 2 ^ 63 - 1) × (s .rate ≤ 2 ^ 63 - 1)) l
+    → Each (λ s. (s .burst ≤ 2 ^ 63 - 1) × (s .rate ≤ 2 ^ 63 - 1)) l
 unfolding some
 small-stages [] h = tt
 small-stages (s ∷ l) h =
@@ -164,7 +163,7 @@ not-too-large row mode g h =
 curve-small : (c : Shape) → SmallCurve c → largeCurve c ≡ false
 curve-small c h =
     light-curve c (omega (arith, h .offset))
-    (all-weaken (λ s. (s .burst ≤ 2 ^ 63 - 1) × (s .rate ≤ 2 ^ 63 - 1)) Light (c .stages)
+    (each-map (λ s. (s .burst ≤ 2 ^ 63 - 1) × (s .rate ≤ 2 ^ 63 - 1)) Light (c .stages)
     (λ s k. record { burst = omega (arith, k .0); rate = omega (arith, k .1) }) (h .stages))
 
 node-small : (n : Node) → SmallNode n → largeNode n ≡ false

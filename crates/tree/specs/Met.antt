@@ -13,7 +13,7 @@ use Rattle.ground.specs.OrderLaws.{le-or-lt}
 use Rattle.tandem.specs.Sums.{total, any}
 use Rattle.tandem.specs.declared.Server.{Server}
 use Rattle.tandem.specs.declared.Flow.{Flow}
-use Rattle.tandem.specs.Tandem.{Tandem, server, flow, crosses, on, rates}
+use Rattle.tandem.specs.Tandem.{Tandem, server, flow, crosses, on, rates, noServer}
 use Rattle.row.specs.Groups.{used, from, from-on, groups, reads}
 use Rattle.row.specs.Checks.{overlaps, notNested}
 use Rattle.tandem.specs.Sound.{Lies, Limits}
@@ -88,13 +88,13 @@ accepted8 = record {
 }
 
 -- of each server, and of what stands for a server that is not there
-rate8 : (m : ℕ) → getD (row8 .servers) m (record { rate = 0; latency = 0 }) .rate ≤ 1000000
+rate8 : (m : ℕ) → getD (row8 .servers) m noServer .rate ≤ 1000000
 rate8 zero = omega arith
 rate8 (suc zero) = omega arith
 rate8 (suc (suc zero)) = omega arith
 rate8 (suc (suc (suc m))) = omega arith
 
-latency8 : (m : ℕ) → getD (row8 .servers) m (record { rate = 0; latency = 0 }) .latency ≤ 10216
+latency8 : (m : ℕ) → getD (row8 .servers) m noServer .latency ≤ 10216
 latency8 zero = omega arith
 latency8 (suc zero) = omega arith
 latency8 (suc (suc zero)) = omega arith

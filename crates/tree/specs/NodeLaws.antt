@@ -7,12 +7,12 @@ use native.Mathlib.Omega.{arith}
 use borrow.Author.Tests.{lt-ltb, le-ltb}
 use lib.ListN.{length, take, drop, getD}
 use lib.Seq.{drop-nil, drop-cons, getD-take}
+use Rattle.tandem.specs.Tandem.{noFlow}
 use Rattle.curves.specs.Curve.{Shape, joined}
 use Rattle.tandem.specs.declared.Server.{Server}
 use Rattle.tandem.specs.declared.Flow.{Flow}
 use Rattle.tree.specs.Plan.{Node, Top, alone, over, serverCurve, along, nodeCurve, nodeOf, headOf, tailOf, plan}
 use Rattle.tree.specs.Fine.{Fine, AllFine}
-use Rattle.tree.specs.Planned.{noFlow}
 
 -- the nodes from k on, and the curve and the node of k
 abbrev pub planFrom : List Server → List Flow → List ℕ → ℕ → List Node

@@ -6,7 +6,8 @@ use mathlib.Core.Bool.{Bool, true, false, cond}
 use mathlib.Core.List.{List, [], _∷_}
 use lib.Dec.{ltb, eqb}
 use lib.ListN.{length, getD}
-use Rattle.curves.specs.Curve.{Shape, server, neutral, joined, leastWait, remainder, delay}
+use Rattle.tandem.specs.Tandem.{noServer}
+use Rattle.curves.specs.Curve.{Shape, server, neutral, joined, leastWait, remainder}
 use Rattle.tandem.specs.declared.Server.{Server}
 use Rattle.tandem.specs.declared.Flow.{Flow}
 
@@ -29,7 +30,7 @@ topOf (g ∷ gs) (n ∷ ns) j = cond (eqb (g .first) j) (over (n .left) (g .last
 
 -- the curve of server j, counted from 1
 abbrev pub serverCurve : List Server → ℕ → Shape
-serverCurve ss j = server (getD ss (j - 1) (record { rate = 0; latency = 0 }) .rate) (getD ss (j - 1) (record { rate = 0; latency = 0 }) .latency)
+serverCurve ss j = server (getD ss (j - 1) noServer .rate) (getD ss (j - 1) noServer .latency)
 
 -- one piece more behind c, unless the end is passed; `next` goes on from a curve and the server after it
 abbrev pub pieceOn : List Server → Bool → Top → Shape → ℕ → (Shape → ℕ → Shape) → Shape

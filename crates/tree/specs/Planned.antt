@@ -6,7 +6,7 @@ use lib.ListN.{getD}
 use Rattle.curves.specs.Curve.{delay}
 use Rattle.tandem.specs.declared.Server.{Server}
 use Rattle.tandem.specs.declared.Flow.{Flow}
-use Rattle.tandem.specs.Tandem.{Tandem, Path, flow}
+use Rattle.tandem.specs.Tandem.{Tandem, Path, flow, noFlow}
 use Rattle.row.specs.Groups.{groups, grouped}
 use Rattle.tree.specs.Plan.{Node, nodeOf, plan}
 use Rattle.tree.specs.Grid.{Answer}
@@ -22,9 +22,6 @@ waitsOf ns = map (λ (n : Node). n .wait) ns
 abbrev pub answerIn : Flow → List Node → Answer
 answerIn w [] = record { delay = 0; waits = [] }
 answerIn w (n ∷ ns) = record { delay = delay (n .curve) (w .burst) (w .rate); waits = waitsOf ns }
-
-abbrev pub noFlow : Flow
-noFlow = record { first = 0; last = 0; burst = 0; rate = 0 }
 
 -- the answer at the point es, of the watched flow and the groups behind it: the extras of the groups in order; the watched flow has none
 unfoldable pub answerOf : List Server → List Flow → List ℕ → Answer

@@ -17,7 +17,7 @@ use Rattle.curves.specs.CurveLaws.{wait-after-offset}
 use Rattle.curves.specs.DelayLaws.{delay-after-offset}
 use Rattle.tandem.specs.declared.Server.{Server}
 use Rattle.tandem.specs.Sums.{weigh, total}
-use Rattle.tandem.specs.Tandem.{Tandem, Path, size, server, flow, crosses, on, watched, bursts}
+use Rattle.tandem.specs.Tandem.{Tandem, Path, size, server, flow, crosses, on, watched, bursts, noServer}
 use Rattle.row.specs.Groups.{path, groups}
 use Rattle.row.specs.Accepted.{Accepted}
 use Rattle.tree.specs.Stretch.{Stretch, none, then-server, then-group, span, groupWait, afterGroup, curve}
@@ -146,11 +146,11 @@ sum-extras (e ∷ es) = omega (arith, sum-extras es, total-front (length es) (ex
 abbrev pub latenciesOf : List Server → List ℕ
 latenciesOf ss = map (λ (s : Server). s .latency) ss
 
-sum-latencies : (ss : List Server) → sumOf (latenciesOf ss) ≡ total (length ss) (λ m. getD ss m (record { rate = 0; latency = 0 }) .latency)
+sum-latencies : (ss : List Server) → sumOf (latenciesOf ss) ≡ total (length ss) (λ m. getD ss m noServer .latency)
 unfolding sumOf total
 sum-latencies [] = refl
 sum-latencies (s ∷ ss) =
-    omega (arith, sum-latencies ss, total-front (length ss) (λ m. getD (s ∷ ss) m (record { rate = 0; latency = 0 }) .latency))
+    omega (arith, sum-latencies ss, total-front (length ss) (λ m. getD (s ∷ ss) m noServer .latency))
 
 module _ (row : Tandem) (extra : ℕ → ℕ) where
   -- a group's wait is at most the offset of a stretch in which it stands

@@ -10,10 +10,12 @@ use native.Mathlib.Nat.{mul-le-mul-right}
 use lib.Dec.{leb, ltb, eqb}
 use lib.ListN.{length, getD, replicate}
 use borrow.Author.Tests.{le-leb, lt-ltb, leb-true, ltb-true}
+use Rattle.ground.specs.EachLaws.{each-both}
+use Rattle.ground.specs.Each.{Each}
 use Rattle.curves.specs.declared.Stage.{Stage}
-use Rattle.curves.specs.Curve.{leastWait, delay, All, Rates}
+use Rattle.curves.specs.Curve.{leastWait, delay, Rates}
 use Rattle.curves.specs.Held.{Live}
-use Rattle.curves.specs.StageLaws.{all-both, rates-weaken}
+use Rattle.curves.specs.StageLaws.{rates-weaken}
 use Rattle.curves.specs.RemainderLaws.{remainder-offset, remainder-length}
 use Rattle.tandem.specs.declared.Flow.{Flow}
 use Rattle.tandem.specs.Sums.{weigh, total}
@@ -240,9 +242,9 @@ module _ (row : Tandem) (ok : Accepted row) (limits : Limits row) where
         let g : count p * 1073741823 ≤ 49 * 1073741823 = mul-le-mul-right 1073741823 n in
         omega (arith, a, b, e, f, g, servers-small (span p) s, limits .small-bursts)
 
-    stages-live : (x : ℕ) (l : List Stage) → x < 2 ^ 36 → All (Small 1000000 x) l → Rates 1 l → All Live l
+    stages-live : (x : ℕ) (l : List Stage) → x < 2 ^ 36 → Each (Small 1000000 x) l → Rates 1 l → Each Live l
     stages-live x l h s r =
-        all-both (Small 1000000 x) (λ s. 1 ≤ s .rate) Live l
+        each-both (Small 1000000 x) (λ s. 1 ≤ s .rate) Live l
         (λ s a b. record { moves = b; slow = omega (arith, a .0); low = omega (arith, a .1) }) s r
 
     -- the node of a stretch that fits, for a group among the flows that cross it whole

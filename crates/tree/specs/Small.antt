@@ -2,7 +2,7 @@
 -- Assumes nothing.
 use Prim.Native.Nat.{ℕ, _-_, _^_, _≤_}
 use mathlib.Core.List.{List, _∷_}
-use Rattle.curves.specs.Curve.{Shape, All}
+use Rattle.curves.specs.Curve.{Shape}
 use Rattle.tandem.specs.Tandem.{Tandem}
 use Rattle.row.specs.Groups.{reads}
 use Rattle.ground.specs.Each.{Each}
@@ -12,7 +12,7 @@ use Rattle.tree.specs.Bound.{answerAt}
 -- no offset and no stage
 pub record SmallCurve (c : Shape) : Type 0 where
   pub offset : c .offset ≤ 2 ^ 63 - 1
-  pub stages : All (λ s. (s .burst ≤ 2 ^ 63 - 1) × (s .rate ≤ 2 ^ 63 - 1)) (c .stages)
+  pub stages : Each (λ s. (s .burst ≤ 2 ^ 63 - 1) × (s .rate ≤ 2 ^ 63 - 1)) (c .stages)
 
 -- no number of a node, its wait included, before and after its group is taken out
 pub record SmallNode (n : Node) : Type 0 where

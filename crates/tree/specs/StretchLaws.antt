@@ -4,15 +4,17 @@ use mathlib.Core.Path.{_≡_, _∙_}
 use mathlib.Core.Bool.{Bool, true, _||_}
 use mathlib.Core.Logic.{_⊎_, inl, inr}
 use mathlib.Core.List.{List, [], _∷_}
-use Prim.Native.Nat.{ℕ, zero, suc, _+_, _*_, _-_, _≤_, _<_}
+use Prim.Native.Nat.{ℕ, suc, _+_, _*_, _-_, _≤_, _<_}
 use native.Mathlib.Omega.{arith}
-use native.Mathlib.Nat.{mul-le-mul-left, mul-le-mul-right, div-lt-iff-lt-mul, div-zero}
+use native.Mathlib.Nat.{mul-le-mul-left, mul-le-mul-right}
 use lib.ListN.{length}
+use Rattle.ground.specs.EachLaws.{each-append, each-map}
+use Rattle.ground.specs.Each.{Each}
 use Rattle.curves.specs.declared.Stage.{Stage}
-use Rattle.curves.specs.Curve.{Shape, neutral, joined, ceil, greatest, catchUp, leastWait, lateness, delay, after, remainder, All, Rates}
+use Rattle.curves.specs.Curve.{Shape, neutral, joined, greatest, catchUp, leastWait, lateness, delay, after, remainder, Rates}
 use Rattle.curves.specs.Curve.{server as serverShape}
 use Rattle.ground.specs.OrderLaws.{le-or-lt}
-use Rattle.curves.specs.StageLaws.{all-weaken, all-append, rates-weaken}
+use Rattle.curves.specs.StageLaws.{ceil-le, rates-weaken}
 use Rattle.curves.specs.JoinLaws.{joined-rates}
 use Rattle.curves.specs.RemainderLaws.{remainder-all, remainder-rates}
 use Rattle.tandem.specs.Tandem.{Tandem, size, server, flow, crosses, on, bursts, rates}
@@ -69,17 +71,6 @@ module _ (row : Tandem) (extra : ℕ → ℕ) (room : (j : ℕ) → 0 < j → j 
       (omega (arith, total-or (length (row .flows)) P (on row g) (λ f. flow row f .rate) (h .3)))
       (curve-rates (λ f. P f || on row g f) (i + span p) q (omega arith) (h .2))))
 
--- no more slots than bytes, whatever the rates
-
-pub ceil-le : (a r : ℕ) → ceil a r ≤ a
-unfolding ceil
-ceil-le a zero = omega (arith, div-zero (a + (zero - 1)))
-ceil-le a (suc r) =
-    let q : a * 1 ≤ a * suc r = mul-le-mul-left a (omega arith) in
-    let x : a + (suc r - 1) < suc a * suc r = omega arith in
-    let y = div-lt-iff-lt-mul {k = suc r} {x = a + (suc r - 1)} {y = suc a} (omega arith) .1 x in
-    omega arith
-
 greatest-most : (f : Stage → ℕ) (w : ℕ) → ((s : Stage) → f s ≤ w) → (l : List Stage) → greatest f l ≤ w
 unfolding greatest
 greatest-most f w h [] = omega arith
@@ -132,19 +123,19 @@ extras-le extra E h (then-group p k g q) = omega (arith, extras-le extra E h p, 
 abbrev pub Small : ℕ → ℕ → Stage → Type 0
 Small M x s = (s .rate ≤ M) × (s .burst ≤ M * x)
 
-small-mono : (M x y : ℕ) (l : List Stage) → x ≤ y → All (Small M x) l → All (Small M y) l
-small-mono M x y l h k = all-weaken (Small M x) (Small M y) l (λ s z. (z .0, omega (arith, z .1, mul-le-mul-left M h))) k
+small-mono : (M x y : ℕ) (l : List Stage) → x ≤ y → Each (Small M x) l → Each (Small M y) l
+small-mono M x y l h k = each-map (Small M x) (Small M y) l (λ s z. (z .0, omega (arith, z .1, mul-le-mul-left M h))) k
 
 small-after : (M d x σ ρ : ℕ) (s : Stage) → Small M d s → Small M (d + x) (after σ ρ x s)
 small-after M d x σ ρ s h = (omega (arith, h .0), omega (arith, mul-le-mul-right x (h .0), h .1))
 
 pub stages-small : (row : Tandem) (extra : ℕ → ℕ) (M : ℕ) → ((j : ℕ) → server row j .rate ≤ M) → (p : Stretch)
-    → All (Small M (curve row extra p .offset)) (curve row extra p .stages)
+    → Each (Small M (curve row extra p .offset)) (curve row extra p .stages)
 unfolding curve joined neutral serverShape afterGroup groupWait leastWait remainder
 stages-small row extra M h none = tt
 stages-small row extra M h (then-server p j) =
     let c = curve row extra p in
-    all-append (Small M (c .offset + server row j .latency)) (c .stages) (record { burst = 0; rate = server row j .rate } ∷ [])
+    each-append (Small M (c .offset + server row j .latency)) (c .stages) (record { burst = 0; rate = server row j .rate } ∷ [])
     (small-mono M (c .offset) (c .offset + server row j .latency) (c .stages) (omega arith) (stages-small row extra M h p))
     ((h j, omega arith), tt)
 stages-small row extra M h (then-group p k g q) =
@@ -152,7 +143,7 @@ stages-small row extra M h (then-group p k g q) =
     let d = curve row extra q in
     let θ = groupWait row g d (extra k) in
     let r = remainder d (bursts row (on row g)) (rates row (on row g)) θ in
-    all-append (Small M (c .offset + θ)) (c .stages) (r .stages)
+    each-append (Small M (c .offset + θ)) (c .stages) (r .stages)
     (small-mono M (c .offset) (c .offset + θ) (c .stages) (omega arith) (stages-small row extra M h p))
     (small-mono M (d .offset + (θ - d .offset)) (c .offset + θ) (r .stages) (omega arith)
     (remainder-all (Small M (d .offset)) (Small M (d .offset + (θ - d .offset))) d (bursts row (on row g)) (rates row (on row g)) θ

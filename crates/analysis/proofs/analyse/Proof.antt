@@ -1,7 +1,7 @@
 -- `analysis::analyse` meets its contract: a list of 231 numbers is never too short, so the reader refuses only what the sheet is refused
 -- for, and what it read is valid.
 -- Assumes nothing.
-use mathlib.Core.Path.{_≡_, refl, sym, _∙_}
+use mathlib.Core.Path.{refl, sym, _∙_}
 use native.Mathlib.Omega.{arith}
 use lib.Seq.{length-take-le}
 use Rattle.analysis.specs.Held.{analysedOf}

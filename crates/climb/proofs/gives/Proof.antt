@@ -5,9 +5,9 @@ use Prim.Native.Nat.{_-_, _≤_, _<_, _^_}
 use native.Mathlib.Omega.{arith}
 use lib.ListN.{length, getD, length-map}
 use lib.Seq.{slice}
+use Rattle.ground.specs.EachLaws.{each-within}
 use Rattle.curves.specs.Curve.{line}
 use Rattle.curves.specs.Held.{shapeOf, blank}
-use Rattle.curves.specs.StageLaws.{all-at}
 use Rattle.keys.specs.State.{gives}
 use Rattle.climb.specs.Branch.{wantIn}
 use Rattle.climb.proofs.Giving.{gives-next, gives-no, gives-end}
@@ -31,7 +31,7 @@ fits : (c : tie.After-struct-known Inv-loop μ-loop)
 fits c =
     let s = c .before .before .before .before in
     let l = sixteen s in
-    all-at (λ u. line (s .args .rest) u < 2 ^ 63) (s .args .t1 .stages) (s .args .t1 .count) (c .before .before .before .loop .i) blank (s .pre .2) (omega arith) (omega arith)
+    each-within (λ u. line (s .args .rest) u < 2 ^ 63) (s .args .t1 .stages) (s .args .t1 .count) (c .before .before .before .loop .i) blank (s .pre .2) (omega arith) (omega arith)
 
 loop-holds : tie.Need-loop-holds Inv-loop μ-loop
 loop-holds c = (omega arith, refl)

@@ -4,7 +4,8 @@ use mathlib.Core.Path.{sym, ap, _∙_, subst}
 use Prim.Native.Nat.{ℕ, _-_, _<_, _^_}
 use borrow.Author.Needs.{needs}
 use lib.Seq.{slice}
-use Rattle.curves.specs.Curve.{All, line}
+use Rattle.ground.specs.Each.{Each}
+use Rattle.curves.specs.Curve.{line}
 use Rattle.curves.specs.Held.{shapeOf}
 use Rattle.keys.specs.State.{gives, givesUnder}
 use Rattle.climb.specs.Branch.{wantIn}
@@ -21,7 +22,7 @@ gives-requires : tie.Need-gives-requires
 gives-requires c κs =
     let r = c .before in
     let s = r .before .before in
-    (s .pre .0 .placed .leaves, s .pre .0 .few, subst (λ (x : ℕ). All (λ u. line x u < 2 ^ 63) (shapeOf (s .args .s .curve) .stages)) (sym (r .rest-of .ensures)) (s .pre .0 .fits))
+    (s .pre .0 .placed .leaves, s .pre .0 .few, subst (λ (x : ℕ). Each (λ u. line x u < 2 ^ 63) (shapeOf (s .args .s .curve) .stages)) (sym (r .rest-of .ensures)) (s .pre .0 .fits))
 
 returns : tie.Need-returns
 unfolding givesUnder

@@ -7,7 +7,8 @@ use borrow.Author.Needs.{needs}
 use borrow.Author.Tests.{leb-false}
 use native.Mathlib.Omega.{arith}
 use lib.Seq.{slice}
-use Rattle.curves.specs.Curve.{All, line}
+use Rattle.ground.specs.Each.{Each}
+use Rattle.curves.specs.Curve.{line}
 use Rattle.curves.specs.Held.{shapeOf}
 use Rattle.keys.specs.State.{gives, restOf, givesBeside}
 use Rattle.climb.specs.Branch.{wantIn}
@@ -29,10 +30,10 @@ rest-of-requires c κs =
     (leb-false _ _ (sym (c .before .is-late .ensures) ∙ c .if1 .left), s .pre .small)
 
 -- in the slots that are left every stage fits
-fits : (c : tie.After-rest-of) → All (λ u. line (c .rest-of .result) u < 2 ^ 63) (shapeOf (c .before .before .before .args .c) .stages)
+fits : (c : tie.After-rest-of) → Each (λ u. line (c .rest-of .result) u < 2 ^ 63) (shapeOf (c .before .before .before .args .c) .stages)
 fits c =
     let s = c .before .before .before in
-    subst (λ (x : ℕ). All (λ u. line x u < 2 ^ 63) (shapeOf (s .args .c) .stages)) (sym (c .rest-of .ensures)) (s .pre .fits)
+    subst (λ (x : ℕ). Each (λ u. line x u < 2 ^ 63) (shapeOf (s .args .c) .stages)) (sym (c .rest-of .ensures)) (s .pre .fits)
 
 -- the servers before the path and behind it are those beside it
 beside : (c : tie.After-rest-of) → let a = c .before .before .before .args in

@@ -1,9 +1,9 @@
 -- `desk::gullbiscuit_analyse` meets its contract: what the analysis holds is the verdict; the numbers of a listing and the detail of a refusal
 -- fit; and nothing is stored before every refusal is excluded.
 -- Assumes nothing.
-use mathlib.Core.Path.{_≡_, sym, _∙_}
+use mathlib.Core.Path.{sym, _∙_}
 use native.Mathlib.Omega.{arith}
-use lib.ListN.{length-take, take}
+use lib.ListN.{length-take}
 use lib.Seq.{length-take-le}
 use Rattle.analysis.specs.Verdict.{recordNumbers}
 use Rattle.sheet.specs.DetailLaws.{gives-detail, encode-all-few}

@@ -1,6 +1,6 @@
 -- `desk::put_record` meets its contract: room is seen to before the first byte is stored.
 -- Assumes nothing.
-use mathlib.Core.Path.{_∙_, sym}
+use mathlib.Core.Path.{_∙_}
 use native.Mathlib.Omega.{arith}
 use Rattle.desk.proofs.Recording.{too-short, has-room}
 use borrow.Author.Needs.{needs}

@@ -1,6 +1,5 @@
 -- `naming::field_at` meets its contract: its tests are those of `fieldAt`, in the same order.
 -- Assumes nothing.
-use Prim.Native.Nat.{ℕ}
 use mathlib.Core.Path.{_≡_, sym}
 use native.Mathlib.Omega.{arith}
 use Rattle.fields.specs.Rule.{perServer, serverAt, flowAt}

@@ -7,15 +7,15 @@ use Prim.Native.Nat.{ℕ, suc, _+_, _-_, _≤_, _<_, _^_}
 use native.Mathlib.Omega.{arith}
 use lib.ListN.{length, getD, set, length-set, length-map}
 use lib.Seq.{length-take-le, getD-take}
+use Rattle.tandem.specs.Tandem.{noFlow, noServer}
 use Rattle.curves.specs.Curve.{Shape, neutral, leastWait, delay}
 use Rattle.curves.specs.Held.{held, Holds}
 use Rattle.curves.specs.HeldLaws.{holds-in-range, holds-leaving, holds-joined, holds-remainder, holds-wait, holds-delay, holds-server, holds-long}
 use Rattle.tandem.specs.declared.Server.{Server}
 use Rattle.tandem.specs.declared.Flow.{Flow}
 use Rattle.row.specs.declared.Row.{Row}
-use Rattle.tree.specs.Plan.{Top, alone, serverCurve, nodeOf}
+use Rattle.tree.specs.Plan.{Top, alone, nodeOf}
 use Rattle.tree.specs.Fine.{Fine}
-use Rattle.tree.specs.Planned.{noFlow}
 use Rattle.tree.specs.Ordered.{Placed}
 use Rattle.tree.specs.NodeLaws.{curveAt, nodeAt, extra-at, fine-at}
 use Rattle.point.specs.Point.{serversOf, flowsOf, extrasOf}
@@ -154,13 +154,13 @@ module _ (c : tie.After-s Inv-loop2 μ-loop2 Inv-loop μ-loop) where
   way = c .before .before
 
   abbrev its-server : Server
-  its-server = getD (start (turn way) .args .t1 .servers) (j way - 1) (record { rate = 0; latency = 0 })
+  its-server = getD (start (turn way) .args .t1 .servers) (j way - 1) noServer
 
-  server-is : getD (ss (start (turn way))) (j way - 1) (record { rate = 0; latency = 0 }) ≡ its-server
+  server-is : getD (ss (start (turn way))) (j way - 1) noServer ≡ its-server
   server-is =
       let r = start (turn way) .args .t1 in
       let h = on-path way in
-      getD-take (r .size) (r .servers) (j way - 1) (record { rate = 0; latency = 0 }) (omega arith)
+      getD-take (r .size) (r .servers) (j way - 1) noServer (omega arith)
 
   room : (way .before .loop2 .c .count < 16) × (way .before .loop2 .c .offset + its-server .latency < 2 ^ 63)
   unfolding nodeOf

@@ -9,13 +9,13 @@ use Rattle.row.proofs.form.Statement.{statement}
 use Rattle.row.proofs.form.Tie as tie
 
 reaches-of-requires : tie.Need-reaches-of-requires
-reaches-of-requires c κs = laid-most _ _ _ (c .before .before .pre .0 .laid)
+reaches-of-requires c κs = laid-most _ _ _ (c .before .before .pre .lent .laid)
 
 slice-aggregate-is-not-nested : tie.Need-slice-aggregate-is-not-nested
 slice-aggregate-is-not-nested c = search needs
 
 is-not-nested-requires : tie.Need-is-not-nested-requires
-is-not-nested-requires c κs = (laid-most _ _ _ (c .before .before .before .before .pre .0 .laid), c .before .reaches-of .ensures .reaches)
+is-not-nested-requires c κs = (laid-most _ _ _ (c .before .before .before .before .pre .lent .laid), c .before .reaches-of .ensures .reaches)
 
 refused-requires : tie.Need-refused-requires
 refused-requires c κs = search needs
@@ -36,7 +36,7 @@ with-groups-requires : tie.Need-with-groups-requires
 with-groups-requires c κs =
     let e = c .before in
     let s = e .before .before .before .before .before .before in
-    (record { lent = s .pre .0; reached = e .before .before .before .reaches-of .ensures .reaches; nested = sym (e .before .is-not-nested .ensures .is) ∙ e .if1 .left }, s .pre .1, s .pre .2)
+    (record { lent = s .pre .lent; reached = e .before .before .before .reaches-of .ensures .reaches; nested = sym (e .before .is-not-nested .ensures .is) ∙ e .if1 .left }, s .pre .coarse, s .pre .dense)
 
 returns-2 : tie.Need-returns-2
 returns-2 c = search needs

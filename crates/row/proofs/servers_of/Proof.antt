@@ -4,6 +4,7 @@ use mathlib.Core.Path.{_≡_, refl, ap, _∙_}
 use Prim.Native.Nat.{ℕ, _≤_, _-_}
 use native.Mathlib.Omega.{arith}
 use borrow.Author.Needs.{needs}
+use Rattle.tandem.specs.Tandem.{noServer}
 use Rattle.tandem.specs.OfSheet.{listed}
 use Rattle.tandem.specs.Lent.{serverIn}
 use Rattle.row.specs.RowFor.{padded}
@@ -12,7 +13,7 @@ use Rattle.row.proofs.servers_of.Statement.{statement}
 use Rattle.row.proofs.servers_of.Tie as tie
 
 abbrev Inv-loop : tie.InvT-loop
-Inv-loop servers n out₀ j₀ out j = (j ≤ n) × (out ≡ padded 16 (record { rate = 0; latency = 0 }) (listed j (serverIn servers)))
+Inv-loop servers n out₀ j₀ out j = (j ≤ n) × (out ≡ padded 16 noServer (listed j (serverIn servers)))
 
 abbrev μ-loop : tie.MeasureT-loop
 μ-loop servers n out₀ j₀ out j = n - j
@@ -57,12 +58,12 @@ loop-less c = search needs
 loop-again : tie.Need-loop-again Inv-loop μ-loop
 loop-again c = let l = c .before .before .before .loop in
     let xs = c .before .before .before .before .args .servers .now in
-    (omega arith, listed-more 16 (record { rate = 0; latency = 0 }) (serverIn xs) (l .out) (l .j) (serverIn xs (l .j)) (l .inv .1) (omega arith) refl)
+    (omega arith, listed-more 16 noServer (serverIn xs) (l .out) (l .j) (serverIn xs (l .j)) (l .inv .1) (omega arith) refl)
 
 returns : tie.Need-returns Inv-loop μ-loop
 returns c = let xs = c .before .before .args .servers .now in
     let e : c .before .loop .j ≡ c .before .before .args .n = omega (arith, c .before .loop .inv .0, c .loop-test .left) in
-    c .before .loop .inv .1 ∙ ap (λ (n : ℕ). padded 16 (record { rate = 0; latency = 0 }) (listed n (serverIn xs))) e
+    c .before .loop .inv .1 ∙ ap (λ (n : ℕ). padded 16 noServer (listed n (serverIn xs))) e
 
 pub servers-of-spec : {M : Type 1} → statement M
 servers-of-spec =

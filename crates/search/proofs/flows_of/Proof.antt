@@ -6,7 +6,7 @@ use Prim.Native.Nat.{ℕ, _≤_, _<_, _-_}
 use native.Mathlib.Omega.{arith}
 use lib.ListN.{length, getD, length-map}
 use borrow.Author.Needs.{needs}
-use Rattle.tree.specs.Planned.{noFlow}
+use Rattle.tandem.specs.Tandem.{noFlow}
 use Rattle.tandem.specs.Lent.{lentFlow}
 use Rattle.tandem.specs.LentLaws.{listed-take}
 use Rattle.search.proofs.Planting.{plant-flow, length-planted}

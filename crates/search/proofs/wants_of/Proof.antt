@@ -7,9 +7,9 @@ use native.Mathlib.Omega.{arith}
 use borrow.Author.Needs.{needs}
 use lib.ListN.{length, getD, drop, length-map}
 use lib.Seq.{drop-cons, getD-take, length-take-le}
+use Rattle.tandem.specs.Tandem.{noFlow}
 use Rattle.tandem.specs.declared.Flow.{Flow}
 use Rattle.row.specs.declared.Row.{Row}
-use Rattle.tree.specs.Planned.{noFlow}
 use Rattle.tree.specs.Ordered.{Placed}
 use Rattle.point.specs.Point.{flowsOf}
 use Rattle.ground.specs.EachLaws.{each-at}

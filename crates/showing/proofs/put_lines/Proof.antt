@@ -2,7 +2,6 @@
 -- the front would have given. The measure is how many numbers are left.
 -- Assumes nothing.
 use Prim.Native.Nat.{_-_}
-use native.Mathlib.Omega.{arith}
 use lib.ListN.{length}
 use Rattle.sheet.specs.ValidLaws.{valid-length}
 use Rattle.showing.proofs.Lining.{Lining, begin-lining, fits, turn-lining, lined}

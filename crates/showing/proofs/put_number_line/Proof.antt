@@ -1,13 +1,12 @@
 -- `showing::put_number_line` meets its contract: the number, the words ` # `, the name and the line end are put behind one another.
 -- Assumes nothing.
 use Prim.Native.Nat.{ℕ, _+_, _≤_}
-use mathlib.Core.Path.{_≡_, ap, _∙_}
-use mathlib.Core.List.{List, _++_}
+use mathlib.Core.Path.{_≡_, ap}
+use mathlib.Core.List.{List}
 use native.Mathlib.Omega.{arith}
 use lib.ListN.{length, getD}
 use Rattle.text.specs.Decimal.{decimal}
 use Rattle.text.specs.Lines.{lineEnd}
-use Rattle.text.specs.Contract.{Put}
 use Rattle.text.specs.PutLaws.{put-then, room-behind}
 use Rattle.naming.specs.Names.{extentIn, nameAt}
 use Rattle.showing.specs.Shown.{hashWord, numberLine}

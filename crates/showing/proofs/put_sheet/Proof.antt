@@ -3,12 +3,11 @@
 -- Assumes nothing.
 use mathlib.Core.Path.{_≡_, refl, sym, ap, _∙_}
 use native.Mathlib.Omega.{arith}
-use lib.ListN.{length}
 use lib.Seq.{length-take-le}
 use Rattle.text.specs.declared.Printed.the-variants.{Answer, Refusal}
-use Rattle.sheet.specs.Sheet.{sheetOf, these, fail}
+use Rattle.sheet.specs.Sheet.{sheetOf, fail}
 use Rattle.sheet.specs.RoomLaws.{Numbers, numbers-read, refused-read}
-use Rattle.showing.specs.Shown.{shown, showText, showPrinted}
+use Rattle.showing.specs.Shown.{showText, showPrinted}
 use borrow.Author.Needs.{needs}
 use Rattle.showing.proofs.put_sheet.Statement.{statement}
 use Rattle.showing.proofs.put_sheet.Tie as tie

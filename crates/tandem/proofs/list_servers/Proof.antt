@@ -1,7 +1,7 @@
 -- `tandem::list_servers` meets its contract. The invariant (`Front`): the first j servers' numbers, and behind them what stood there. The measure
 -- is how many servers are left.
 -- Assumes nothing.
-use mathlib.Core.Path.{_≡_, sym, ap, _∙_}
+use mathlib.Core.Path.{_≡_, ap, _∙_}
 use mathlib.Core.List.{List, _++_}
 use Prim.Native.Nat.{ℕ, _*_, _-_, _≤_, _<_}
 use native.Mathlib.Omega.{arith}
