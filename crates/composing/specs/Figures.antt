@@ -1,7 +1,7 @@
 -- P7 shown and composed, which meets every hypothesis of `shown-composed`, and the line of a text whose edition is wrong, computed.
 -- Assumes nothing.
 use Prim.Native.Nat.{ℕ, zero, suc}
-use mathlib.Core.Path.{_≡_, refl}
+use mathlib.Core.Path.{_≡_, refl, ap}
 use mathlib.Core.Logic.{inl}
 use native.Mathlib.Omega.{arith}
 use mathlib.Core.List.{List, [], _∷_, _++_}
@@ -11,12 +11,13 @@ use Rattle.fields.specs.declared.Why.the-variants.{Outside}
 use Rattle.fields.specs.Rule.{ruleAt, fieldAt, seenAfter}
 use Rattle.fields.specs.Step.{stepOn}
 use Rattle.sheet.specs.Sheet.{sheetOf, listOf}
+use Rattle.text.specs.declared.Printed.the-variants.{Answer, Refusal}
 use Rattle.text.specs.Decimal.{decimal}
 use Rattle.text.specs.Lines.{field}
 use Rattle.scribe.specs.Text.{isBlank, isDigit, outsideBy, longerBy, insideBy, turnOf, lineAfter, textOf}
 use Rattle.naming.specs.Names.{nameOf, ownerAt, nameAt, endsOf, rangeOf}
 use Rattle.showing.specs.Shown.{shown}
-use Rattle.composing.specs.Composed.{lineOf, placeText, outsideText, outsideLine, faultEnd, faultText, complaint, made, wrong, composed}
+use Rattle.composing.specs.Composed.{lineOf, placeText, outsideText, outsideLine, faultEnd, faultText, complaint, made, wrong, composed, composedPrinted}
 use Rattle.composing.specs.ComposedLaws.{shown-composed}
 use Rattle.composing.specs.ToldLaws.{Told, told}
 
@@ -60,6 +61,13 @@ pub second-wrong : composed second ≡ wrong complained
 unfolding composed textOf turnOf outsideBy insideBy longerBy isBlank isDigit lineAfter listOf stepOn ruleAt fieldAt seenAfter complaint lineOf placeText
     faultText faultEnd outsideLine outsideText nameAt nameOf ownerAt rangeOf endsOf field decimal
 second-wrong = refl
+
+-- a sheet is an answer of so many bytes, and what is wrong with a text is none
+pub P7-printed : composedPrinted (composed (shown P7)) ≡ Answer 13
+P7-printed = ap composedPrinted P7-composed
+
+pub second-printed : composedPrinted (composed second) ≡ Refusal 46
+second-printed = ap composedPrinted second-wrong
 
 -- it meets the hypotheses of the law of what is told
 pub second-told : Told second (2 ∷ []) Outside 0

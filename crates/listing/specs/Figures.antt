@@ -21,10 +21,11 @@ use Rattle.tree.specs.Tree.{stretchFrom, top, tree}
 use Rattle.tree.specs.Bound.{bound, waits, answerAt, searched}
 use Rattle.tree.specs.Plan.{plan, nodeOf, nodeCurve, along, topOf}
 use Rattle.tree.specs.Large.{tooLarge, largeAt, some, largeNode, largeCurve}
+use Rattle.text.specs.declared.Printed.the-variants.{Answer, Refusal}
 use Rattle.text.specs.Decimal.{decimal}
 use Rattle.text.specs.Lines.{field, line, refusalLine}
 use Rattle.analysis.specs.Verdict.{listingOf, verdictOn, verdictOf}
-use Rattle.listing.specs.Text.{groupLine, groupLines, figureLines, reportOf}
+use Rattle.listing.specs.Text.{groupLine, groupLines, figureLines, reportOf, printedOf}
 
 -- P7: R 10, T 0; cross 10, 6; watched 12, 4; g 4
 abbrev pub sheet7 : List ℕ
@@ -87,3 +88,15 @@ text0 = 114 ∷ 101 ∷ 102 ∷ 117 ∷ 115 ∷ 101 ∷ 100 ∷ 32 ∷ 49 ∷ 32
 pub report0 : reportOf (verdictOf []) ≡ text0
 unfolding reportOf refusalLine line field decimal verdictOf verdictOn sheetOf stepOn ruleAt fieldAt seenAfter numberAt
 report0 = refl
+
+-- a report is an answer of so many bytes, and a refusal is none
+pub printed7 : printedOf (verdictOf sheet7) ≡ Answer 40
+unfolding printedOf reportOf refusalLine figureLines groupLines groupLine line field decimal verdictOf verdictOn listingOf searched foundOf stepsOf listed
+    pointsOf better answerAt bound waits tree top stretchFrom curve afterGroup groupWait server neutral joined ceil greatest catchUp leastWait remainder
+    lateness delay total any crosses on bursts rates used from from-on groups grouped reads overlaps notNested crowded lowestCrowded tooMany tooLarge
+    largeAt some largeNode largeCurve plan nodeOf nodeCurve along topOf tandemOf gridOf checkOf sheetOf stepOn ruleAt fieldAt seenAfter numberAt
+printed7 = refl
+
+pub printed0 : printedOf (verdictOf []) ≡ Refusal 15
+unfolding printedOf reportOf refusalLine line field decimal verdictOf verdictOn sheetOf stepOn ruleAt fieldAt seenAfter numberAt
+printed0 = refl

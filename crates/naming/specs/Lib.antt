@@ -2,3 +2,4 @@ pub mod Names
 pub mod Contract
 pub mod NamesLaws
 pub mod Unique
+pub mod Figures

@@ -97,7 +97,7 @@ extentIn xs = record { edition = getD xs 0 0; servers = getD xs 1 0; flows = get
 abbrev pub seen : Extent → Seen
 seen e = record { edition = e .edition; servers = e .servers; flows = e .flows; prev = 0 }
 
--- Which server or flow the field at place i is of, counted from 1.
+-- Which server or cross flow the field at place i is of, counted from 1. The names of the other fields do not ask.
 unfoldable pub ownerAt : ℕ → Seen → ℕ
 ownerAt i e =
     cond (ltb i (serverAt (e .edition) (e .servers) 0)) ((i - 2) / perServer (e .edition) + 1) ((i - flowAt (e .edition) (e .servers) 0) / 4 + 1)

@@ -61,7 +61,7 @@ pub fn field_at(i: usize, e: Extent) -> usize
     9 + (i - rest)
 }
 
-// Which server or flow the field at place i is of, counted from 1; 1 where it is of none.
+// Which server or cross flow the field at place i is of, counted from 1. The names of the other fields do not ask.
 fn owner_at(i: usize, e: Extent) -> usize
     requires { ⌜ i ≤ 1000 ⌝ }
     ensures { λ r. ⌜ r ≡ ownerAt i (seen e) ⌝ }

@@ -3,3 +3,4 @@ pub mod Contract
 pub mod ShownLaws
 pub mod ReadLaws
 pub mod Unique
+pub mod Figures
