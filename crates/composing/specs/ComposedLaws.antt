@@ -1,5 +1,4 @@
--- How long what is printed is; that only a text that is too long, that slips or whose list is no sheet's is complained of; and THE LAW that
--- `compose` makes of what `show` prints the very sheet that was shown.
+-- How long what is printed is; and THE LAW that `compose` makes of what `show` prints the very sheet that was shown.
 -- Assumes nothing.
 use Prim.Native.Nat.{ℕ, _+_, _≤_}
 use mathlib.Core.Path.{_≡_, refl, ap}

@@ -94,7 +94,8 @@ impl Curve {
 
     // What a group (sigma, rho) leaves of the stages from `from` up to before `to`, `gap` slots after the offset; the others stay.
     pub fn left(self, from: usize, to: usize, sigma: u64, rho: u64, gap: u64) -> Curve
-        requires { ⌜ (from ≤ to) × (to ≤ self .count) × (self .count ≤ 16) × Each (Leaves sigma rho gap) (slice from to (shapeOf self .stages)) × (self .offset + gap < 2 ^ 64) ⌝ }
+        requires { ⌜ (from ≤ to) × (to ≤ self .count) × (self .count ≤ 16) × Each (Leaves sigma rho gap) (slice from to (shapeOf self .stages))
+            × (self .offset + gap < 2 ^ 64) ⌝ }
         ensures { λ r. ⌜ Left self from to sigma rho gap r ⌝ }
     {
         let mut r = self;

@@ -35,17 +35,17 @@ filled-fits flows l s =
     }
 
 -- a bound: the verdict's listing, whose numbers fit and are the record's
-pub record Listed (bytes : List ℕ) (a : Analysed) : Type 0 where
+pub record Answers (bytes : List ℕ) (a : Analysed) : Type 0 where
   pub listing-of : Listing
   pub verdict : verdictOf bytes ≡ bounded listing-of
   pub fits : Fits a
   pub numbers : recordIn a ≡ recordNumbers listing-of
   pub few : length (recordNumbers listing-of) ≤ 36
 
-pub listed : (bytes : List ℕ) (a : Analysed) → a ≡ analysedOf bytes → a .judged ≡ Bounded → Listed bytes a
-listed bytes a e b = by (case-of bytes)
+pub answers : (bytes : List ℕ) (a : Analysed) → a ≡ analysedOf bytes → a .judged ≡ Bounded → Answers bytes a
+answers bytes a e b = by (case-of bytes)
   where
-    by : Case bytes → Listed bytes a
+    by : Case bytes → Answers bytes a
     by (refusing w d c v h) =
         let q : Refused w d ≡ Bounded = sym (ap (λ (x : Analysed). x .judged) (e ∙ h)) ∙ b in
         let z : _≡_ {A = ℕ} 0 1 = cc in

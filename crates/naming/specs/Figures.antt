@@ -7,7 +7,6 @@ use Rattle.fields.specs.declared.Rule.the-variants.{Range, Path, ZeroOr, Past}
 use Rattle.fields.specs.Rule.{fieldAt}
 use Rattle.text.specs.Decimal.{decimal}
 use Rattle.text.specs.Lines.{field}
-use Rattle.naming.specs.declared.Extent.{Extent}
 use Rattle.naming.specs.Names.{editionWord, serversWord, serverRateWord, latencyWord, countWord, firstWord, lastWord, burstWord, rateWord}
 use Rattle.naming.specs.Names.{watchedBurstWord, watchedRateWord, modeWord, gridWord, nameOf, extentIn, ownerAt, nameAt, endsOf, rangeOf}
 

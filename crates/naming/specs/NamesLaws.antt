@@ -97,12 +97,24 @@ module _ (i : ℕ) (e : Extent) where
   pub field-flow : 2 ≤ i → serverAt (e .edition) (e .servers) 0 ≤ i → flowAt (e .edition) (e .servers) 0 ≤ i → i < flowAt (e .edition) (e .servers) (e .flows)
       → fieldAt i (seen e) ≡ 5 + (i - flowAt (e .edition) (e .servers) 0) % 4
   unfolding fieldAt
-  field-flow a b c h = rw (le-ltb i 2 a, le-ltb i (serverAt (e .edition) (e .servers) 0) b, le-ltb i (flowAt (e .edition) (e .servers) 0) c, lt-ltb i (flowAt (e .edition) (e .servers) (e .flows)) h)
+  field-flow a b c h =
+      rw (
+        le-ltb i 2 a,
+        le-ltb i (serverAt (e .edition) (e .servers) 0) b,
+        le-ltb i (flowAt (e .edition) (e .servers) 0) c,
+        lt-ltb i (flowAt (e .edition) (e .servers) (e .flows)) h,
+      )
 
   pub field-rest : 2 ≤ i → serverAt (e .edition) (e .servers) 0 ≤ i → flowAt (e .edition) (e .servers) 0 ≤ i → flowAt (e .edition) (e .servers) (e .flows) ≤ i
       → fieldAt i (seen e) ≡ 9 + (i - flowAt (e .edition) (e .servers) (e .flows))
   unfolding fieldAt
-  field-rest a b c h = rw (le-ltb i 2 a, le-ltb i (serverAt (e .edition) (e .servers) 0) b, le-ltb i (flowAt (e .edition) (e .servers) 0) c, le-ltb i (flowAt (e .edition) (e .servers) (e .flows)) h)
+  field-rest a b c h =
+      rw (
+        le-ltb i 2 a,
+        le-ltb i (serverAt (e .edition) (e .servers) 0) b,
+        le-ltb i (flowAt (e .edition) (e .servers) 0) c,
+        le-ltb i (flowAt (e .edition) (e .servers) (e .flows)) h,
+      )
 
   pub owner-server : i < serverAt (e .edition) (e .servers) 0 → ownerAt i (seen e) ≡ (i - 2) / perServer (e .edition) + 1
   unfolding ownerAt

@@ -29,14 +29,14 @@ use Rattle.row.proofs.Reaching.{from-before, from-behind, from-next, gr
 abbrev pub coming : Tandem → ℕ → ℕ → List Path
 coming row i l = from row i l ++ from-on row (suc i) (size row - i)
 
-pub record Listing (row : Tandem) (list : List Flow) (count i l : ℕ) : Type 0 where
+pub record Gathering (row : Tandem) (list : List Flow) (count i l : ℕ) : Type 0 where
   pub done : List Flow
   pub held : list ≡ padded 32 noFlow done
   pub counted : count ≡ length done
   pub whole : done ++ map (grouped row) (coming row i l) ≡ reads row
 
 -- what the loop needs of the row
-pub record Listed (row : Tandem) : Type 0 where
+pub record Gatherable (row : Tandem) : Type 0 where
   pub inside : Inside row
   pub onward : (f : ℕ) → f < length (row .flows) → flow row f .first ≤ flow row f .last
   pub few : length (groups row) ≤ 31
@@ -46,7 +46,7 @@ put-append : {B : Type 0} (b : Bool) (x : B) (l r : List B) → put b x l ++ r �
 put-append true x l r = refl
 put-append false x l r = refl
 
-module _ (row : Tandem) (ok : Listed row) where
+module _ (row : Tandem) (ok : Gatherable row) where
   used-moves : (g : Path) → used row g ≡ true → 0 < rates row (on row g)
   unfolding used rates
   used-moves g e = some-weight (length (row .flows)) (on row g) (λ f. flow row f .rate) (λ f l k. ok .moves f l) e
@@ -66,14 +66,14 @@ module _ (row : Tandem) (ok : Listed row) where
   unfolding reads
   few-reads = omega (arith, ok .few, length-map (groups row) (grouped row))
 
-  pub begin-listing : (w : Flow) → w ≡ flow row 0 → (l : ℕ) → l ≡ reachOf row 1 (length (row .flows)) → Listing row (set (replicate 32 noFlow) 0 w) 1 1 l
+  pub begin-gathering : (w : Flow) → w ≡ flow row 0 → (l : ℕ) → l ≡ reachOf row 1 (length (row .flows)) → Gathering row (set (replicate 32 noFlow) 0 w) 1 1 l
   unfolding reads
-  begin-listing w e l q =
+  begin-gathering w e l q =
       record { done = w ∷ []; held = refl; counted = refl; whole = rw (e, q, groups-next row (ok .inside)) }
 
   -- behind the last path of a first server come those of the next
-  pub next-first : (list : List Flow) (count i l k : ℕ) → Listing row list count i l → l < i → i ≤ size row
-      → k ≡ reachOf row (i + 1) (length (row .flows)) → Listing row list count (i + 1) k
+  pub next-first : (list : List Flow) (count i l k : ℕ) → Gathering row list count i l → l < i → i ≤ size row
+      → k ≡ reachOf row (i + 1) (length (row .flows)) → Gathering row list count (i + 1) k
   next-first list count i l k v h s q =
       let n = length (row .flows) in
       let e : coming row i l ≡ coming row (i + 1) k =
@@ -88,12 +88,12 @@ module _ (row : Tandem) (ok : Listed row) where
   from-put i zero h = absurd (omega arith)
   from-put i (suc m) h = let e : suc m - 1 ≡ m = omega arith in rw e
 
-  module _ (list : List Flow) (count i l : ℕ) (v : Listing row list count i l) (s : 0 < l) where
+  module _ (list : List Flow) (count i l : ℕ) (v : Gathering row list count i l) (s : 0 < l) where
     next : coming row i l ≡ put (used row (path i l)) (path i l) (coming row i (l - 1))
     next = ap (λ (z : List Path). z ++ from-on row (suc i) (size row - i)) (from-put i l s) ∙ put-append (used row (path i l)) (path i l) (from row i (l - 1)) (from-on row (suc i) (size row - i))
 
     -- where nobody has the path, it is passed over
-    pub skip-path : rates row (on row (path i l)) ≡ 0 → Listing row list count i (l - 1)
+    pub skip-path : rates row (on row (path i l)) ≡ 0 → Gathering row list count i (l - 1)
     skip-path h = record {
       done = v .done;
       held = v .held;
@@ -111,7 +111,7 @@ module _ (row : Tandem) (ok : Listed row) where
           omega (arith, v .counted, few-reads, length-append (v .done) (grouped row (path i l) ∷ rest), ap length more)
 
       -- else it is listed, with its sums
-      pub list-path : (g : Flow) → g ≡ grouped row (path i l) → Listing row (set list count g) (count + 1) i (l - 1)
+      pub list-path : (g : Flow) → g ≡ grouped row (path i l) → Gathering row (set list count g) (count + 1) i (l - 1)
       list-path g e = record {
         done = v .done ++ (g ∷ []);
         held =
@@ -127,10 +127,10 @@ module _ (row : Tandem) (ok : Listed row) where
   grouped-is i l b r h k = rw (h, k)
 
   -- behind the last server all is listed
-  pub end-listing : (list : List Flow) (count i l : ℕ) → Listing row list count i l → size row < i
+  pub end-gathering : (list : List Flow) (count i l : ℕ) → Gathering row list count i l → size row < i
       → (list ≡ padded 32 noFlow (reads row)) × (count ≡ length (reads row))
   unfolding from-on
-  end-listing list count i l v h =
+  end-gathering list count i l v h =
       let z : size row - i ≡ 0 = omega arith in
       let n : coming row i l ≡ [] =
       ap (λ (t : List Path). t ++ from-on row (suc i) (size row - i)) (from-behind row (ok .inside) i l h) ∙ ap (λ (m : ℕ). from-on row (suc i) m) z in
@@ -138,9 +138,9 @@ module _ (row : Tandem) (ok : Listed row) where
       (v .held ∙ ap (padded 32 noFlow) e, v .counted ∙ ap length e)
 
 -- what the loop needs of lent lists
-pub lent-listed : (servers : List ℕ) (size : ℕ) (flows : List ℕ) (n : ℕ) → Lent servers size flows n → length (groups (tandemIn servers size flows n)) ≤ 31
-    → Listed (tandemIn servers size flows n)
-lent-listed servers s flows n h few = record { inside = inside; onward = onward; few = few; moves = moves }
+pub lent-gatherable : (servers : List ℕ) (size : ℕ) (flows : List ℕ) (n : ℕ) → Lent servers size flows n → length (groups (tandemIn servers size flows n)) ≤ 31
+    → Gatherable (tandemIn servers size flows n)
+lent-gatherable servers s flows n h few = record { inside = inside; onward = onward; few = few; moves = moves }
   where
     long : length (listed s (serverIn servers)) ≡ s
     long = length-listed s (serverIn servers)

@@ -99,51 +99,51 @@ abbrev atEach : ℕ → List Cross → List Cross
 atEach zero l = l
 atEach (suc n) l = atEach n (crossing (suc n) (suc n) 1 ∷ l)
 
-pub record Judged : Type 0 where
+pub record Checked : Type 0 where
   pub sheet : List ℕ
   pub says : Check
 
-abbrev judged : List ℕ → Check → Judged
-judged s c = record { sheet = s; says = c }
+abbrev checked : List ℕ → Check → Checked
+checked s c = record { sheet = s; says = c }
 
 abbrev tens : ℕ → List ℕ
 tens n = replicate n 10
 
-abbrev pub rows : List Judged
+abbrev pub rows : List Checked
 rows =
     -- 6: i < h ≤ j < k, in either order in the sheet; paths that share no server, one path inside another, with or without its first or last server,
     -- and equal paths do not cross
-    judged (rowWith (tens 4) (crossing 1 3 1 ∷ crossing 2 4 1 ∷ []) 1 0 3) Crossing
-    ∷ judged (rowWith (tens 4) (crossing 3 4 1 ∷ crossing 1 1 1 ∷ crossing 1 3 1 ∷ []) 1 0 3) Crossing
-    ∷ judged (rowWith (tens 4) (crossing 1 2 1 ∷ crossing 3 4 1 ∷ []) 1 0 3) Passed
-    ∷ judged (rowWith (tens 4) (crossing 1 4 1 ∷ crossing 2 3 1 ∷ crossing 1 3 1 ∷ crossing 1 1 1 ∷ crossing 4 4 1 ∷ []) 1 0 3) Passed
-    ∷ judged (rowWith (tens 4) (crossing 2 3 1 ∷ crossing 2 3 1 ∷ crossing 3 3 1 ∷ []) 1 0 3) Passed
+    checked (rowWith (tens 4) (crossing 1 3 1 ∷ crossing 2 4 1 ∷ []) 1 0 3) Crossing
+    ∷ checked (rowWith (tens 4) (crossing 3 4 1 ∷ crossing 1 1 1 ∷ crossing 1 3 1 ∷ []) 1 0 3) Crossing
+    ∷ checked (rowWith (tens 4) (crossing 1 2 1 ∷ crossing 3 4 1 ∷ []) 1 0 3) Passed
+    ∷ checked (rowWith (tens 4) (crossing 1 4 1 ∷ crossing 2 3 1 ∷ crossing 1 3 1 ∷ crossing 1 1 1 ∷ crossing 4 4 1 ∷ []) 1 0 3) Passed
+    ∷ checked (rowWith (tens 4) (crossing 2 3 1 ∷ crossing 2 3 1 ∷ crossing 3 3 1 ∷ []) 1 0 3) Passed
     -- 7: "R 10, rates 6 and 4 | accepted"; at each server the rates of the flows that cross it, from the first server to the last; "lowest such server"
-    ∷ judged (rowWith (tens 1) (crossing 1 1 6 ∷ []) 4 0 3) Passed
-    ∷ judged (rowWith (tens 2) (crossing 1 1 6 ∷ crossing 2 2 6 ∷ []) 4 0 3) Passed
-    ∷ judged (rowWith (tens 2) (crossing 1 1 6 ∷ crossing 2 2 7 ∷ []) 4 0 3) (Crowded 2)
-    ∷ judged (rowWith (10 ∷ 20 ∷ 20 ∷ 10 ∷ []) (crossing 2 3 16 ∷ []) 4 0 3) Passed
-    ∷ judged (rowWith (10 ∷ 19 ∷ 20 ∷ 10 ∷ []) (crossing 2 3 16 ∷ []) 4 0 3) (Crowded 2)
-    ∷ judged (rowWith (10 ∷ 20 ∷ 19 ∷ 10 ∷ []) (crossing 2 3 16 ∷ []) 4 0 3) (Crowded 3)
-    ∷ judged (rowWith (10 ∷ 19 ∷ 19 ∷ 3 ∷ []) (crossing 2 3 16 ∷ []) 4 0 3) (Crowded 2)
+    ∷ checked (rowWith (tens 1) (crossing 1 1 6 ∷ []) 4 0 3) Passed
+    ∷ checked (rowWith (tens 2) (crossing 1 1 6 ∷ crossing 2 2 6 ∷ []) 4 0 3) Passed
+    ∷ checked (rowWith (tens 2) (crossing 1 1 6 ∷ crossing 2 2 7 ∷ []) 4 0 3) (Crowded 2)
+    ∷ checked (rowWith (10 ∷ 20 ∷ 20 ∷ 10 ∷ []) (crossing 2 3 16 ∷ []) 4 0 3) Passed
+    ∷ checked (rowWith (10 ∷ 19 ∷ 20 ∷ 10 ∷ []) (crossing 2 3 16 ∷ []) 4 0 3) (Crowded 2)
+    ∷ checked (rowWith (10 ∷ 20 ∷ 19 ∷ 10 ∷ []) (crossing 2 3 16 ∷ []) 4 0 3) (Crowded 3)
+    ∷ checked (rowWith (10 ∷ 19 ∷ 19 ∷ 3 ∷ []) (crossing 2 3 16 ∷ []) 4 0 3) (Crowded 2)
     -- 8: "g 9, five groups: 59,049 points | accepted", "g 9, six groups | 8, detail 6", "g 2, sixteen groups; seventeen | accepted; 8"; six flows on
     -- five paths are five groups
-    ∷ judged (rowWith (tens 5) (atEach 5 []) 1 0 9) Passed
-    ∷ judged (rowWith (tens 5) (atEach 5 (crossing 5 5 1 ∷ [])) 1 0 9) Passed
-    ∷ judged (rowWith (tens 6) (atEach 6 []) 1 0 9) (Points 6)
-    ∷ judged (rowWith (tens 6) (atEach 6 []) 1 1 9) Passed
-    ∷ judged (rowWith (tens 16) (atEach 16 []) 1 0 2) Passed
-    ∷ judged (rowWith (tens 16) (atEach 16 (crossing 1 16 1 ∷ [])) 1 0 2) (Points 17)
+    ∷ checked (rowWith (tens 5) (atEach 5 []) 1 0 9) Passed
+    ∷ checked (rowWith (tens 5) (atEach 5 (crossing 5 5 1 ∷ [])) 1 0 9) Passed
+    ∷ checked (rowWith (tens 6) (atEach 6 []) 1 0 9) (Points 6)
+    ∷ checked (rowWith (tens 6) (atEach 6 []) 1 1 9) Passed
+    ∷ checked (rowWith (tens 16) (atEach 16 []) 1 0 2) Passed
+    ∷ checked (rowWith (tens 16) (atEach 16 (crossing 1 16 1 ∷ [])) 1 0 2) (Points 17)
     -- 4^8 is 65,536; and 0 means 3: 3^10 is 59,049, 3^11 is 177,147
-    ∷ judged (rowWith (tens 8) (atEach 8 []) 1 0 4) Passed
-    ∷ judged (rowWith (tens 9) (atEach 9 []) 1 0 4) (Points 9)
-    ∷ judged (rowWith (tens 10) (atEach 10 []) 1 0 0) Passed
-    ∷ judged (rowWith (tens 11) (atEach 11 []) 1 0 0) (Points 11)
+    ∷ checked (rowWith (tens 8) (atEach 8 []) 1 0 4) Passed
+    ∷ checked (rowWith (tens 9) (atEach 9 []) 1 0 4) (Points 9)
+    ∷ checked (rowWith (tens 10) (atEach 10 []) 1 0 0) Passed
+    ∷ checked (rowWith (tens 11) (atEach 11 []) 1 0 0) (Points 11)
     ∷ []
 
-pub rows-judged : map (λ (r : Judged). checkOf (r .sheet)) rows ≡ map (λ (r : Judged). r .says) rows
+pub rows-checked : map (λ (r : Checked). checkOf (r .sheet)) rows ≡ map (λ (r : Checked). r .says) rows
 unfolding total any crosses on bursts rates used from from-on groups overlaps notNested crowded lowestCrowded tooMany listed tandemOf gridOf checkOf
-rows-judged = refl
+rows-checked = refl
 
 -- "above 65,536": the number itself is not, and the next is; "mode 0"
 pub points-limit :

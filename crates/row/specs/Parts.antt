@@ -22,7 +22,7 @@ unfoldable pub reachOf : Tandem → ℕ → ℕ → ℕ
 reachOf row i zero = 0
 reachOf row i (suc n) = max (reachOf row i n) (weigh (eqb (flow row n .first) i) (flow row n .last))
 
--- these for each server
+-- these for each place of a list of eighteen, the servers' among them
 pub record Reached (row : Tandem) (n : ℕ) (reaches : List ℕ) : Type 0 where
   pub long : length reaches ≡ 18
   pub reach-at : (i : ℕ) → i < 18 → getD reaches i 0 ≡ reachOf row i n

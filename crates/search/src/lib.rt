@@ -91,7 +91,8 @@ fn raise(xs: &mut [u64], from: usize, to: usize, by: u64)
 // What is wanted of each server: what the watched flow may send in its first slot, and the bursts of the groups whose paths pass it.
 fn wants_of(row: Row) -> [u64; 16]
     requires { ⌜ Shaped row × Each (λ f. f .burst + f .rate < 2 ^ 40) (flowsOf row) ⌝ }
-    ensures { λ r. ⌜ (length r ≡ 16) × ((j : ℕ) → j < row .size → getD r j 0 ≡ burstsOn (drop 1 (flowsOf row)) j + (getD (flowsOf row) 0 noFlow .burst + getD (flowsOf row) 0 noFlow .rate)) ⌝ }
+    ensures { λ r. ⌜ (length r ≡ 16) × ((j : ℕ) → j < row .size
+        → getD r j 0 ≡ burstsOn (drop 1 (flowsOf row)) j + (getD (flowsOf row) 0 noFlow .burst + getD (flowsOf row) 0 noFlow .rate)) ⌝ }
 {
     let n = row.count;
     let w = row.groups[0];

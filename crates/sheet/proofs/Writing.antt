@@ -32,24 +32,24 @@ use Rattle.sheet.specs.WalkLaws.{list-whole}
 use Rattle.sheet.proofs.Walking.{Walking, begin, turn, finished}
 
 -- the check: the numbers passed are the front of the list, and their bytes are counted
-pub record Listing (xs : List ℕ) (cursor : Cursor) (i total : ℕ) : Type 0 where
+pub record Passing (xs : List ℕ) (cursor : Cursor) (i total : ℕ) : Type 0 where
   pub walking : Walking Writer (entryAt xs) (length xs) (listOf xs) (take i xs) cursor i i
   pub count : total ≡ length (encodeAll (take i xs))
   pub cap : total ≤ 5 * i
 
-pub begin-listing : (xs : List ℕ) → Listing xs (cursorAt Writer 0 nothing) 0 0
+pub begin-passing : (xs : List ℕ) → Passing xs (cursorAt Writer 0 nothing) 0 0
 unfolding listOf
-begin-listing xs = record { walking = begin Writer (entryAt xs) (length xs); count = refl; cap = omega arith }
+begin-passing xs = record { walking = begin Writer (entryAt xs) (length xs); count = refl; cap = omega arith }
 
-pub listed : (xs : List ℕ) (rule : Rule) (i x next : ℕ) → stepOn (entryAt xs i) (length xs) i rule ≡ Value x next → Entry xs i x next
-listed xs rule i x next t =
+pub entry-passed : (xs : List ℕ) (rule : Rule) (i x next : ℕ) → stepOn (entryAt xs i) (length xs) i rule ≡ Value x next → Entry xs i x next
+entry-passed xs rule i x next t =
     let v : Gave (entryAt xs i) rule x next = step-gave (entryAt xs i) (length xs) i rule x next t in
     entry-was xs i x next (v .read)
 
-pub turn-listing : {xs : List ℕ} {cursor : Cursor} {i total : ℕ} (x next : ℕ) → Listing xs cursor i total
-    → stepOn (entryAt xs i) (length xs) i (cursor .rule) ≡ Value x next → Listing xs (cursorAfter Writer cursor x) next (total + length (encode x))
-turn-listing {xs} {cursor} {i} {total} x next g t =
-    let k : Entry xs i x next = listed xs (cursor .rule) i x next t in
+pub turn-passing : {xs : List ℕ} {cursor : Cursor} {i total : ℕ} (x next : ℕ) → Passing xs cursor i total
+    → stepOn (entryAt xs i) (length xs) i (cursor .rule) ≡ Value x next → Passing xs (cursorAfter Writer cursor x) next (total + length (encode x))
+turn-passing {xs} {cursor} {i} {total} x next g t =
+    let k : Entry xs i x next = entry-passed xs (cursor .rule) i x next t in
     let f : take (i + 1) xs ≡ take i xs ++ (x ∷ []) = rw (add-one i, take-suc xs i 0 (k .inside), k .value) in
     let w : Walking Writer (entryAt xs) (length xs) (listOf xs) (take (i + 1) xs) (cursorAfter Writer cursor x) next (i + 1) = rw f (turn x next (g .walking) t) in
     rw (k .place)
@@ -59,9 +59,9 @@ turn-listing {xs} {cursor} {i} {total} x next g t =
       cap = omega (arith, g .cap, encode-few x);
     })
 
-pub finished-listing : {xs : List ℕ} {cursor : Cursor} {i total : ℕ} → Listing xs cursor i total → stepOn (entryAt xs i) (length xs) i (cursor .rule) ≡ End
+pub finished-passing : {xs : List ℕ} {cursor : Cursor} {i total : ℕ} → Passing xs cursor i total → stepOn (entryAt xs i) (length xs) i (cursor .rule) ≡ End
     → Done total ≡ checked (listOf xs)
-finished-listing {xs} {cursor} {i} {total} g t = rw (finished (g .walking) t, g .count)
+finished-passing {xs} {cursor} {i} {total} g t = rw (finished (g .walking) t, g .count)
 
 -- the width of a list: the bytes of the numbers passed are counted
 pub record Counting (xs : List ℕ) (i total : ℕ) : Type 0 where

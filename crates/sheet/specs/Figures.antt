@@ -43,7 +43,9 @@ table =
     ∷ example (255 ∷ 255 ∷ 255 ∷ 255 ∷ []) (1 ∷ 0 ∷ [])
     -- 2: not shortest; "a fifth group that continues is 2 even where the bytes end there"; 4,294,967,296, where 4,294,967,295 is only out of range
     ∷ example (129 ∷ 0 ∷ []) (2 ∷ 0 ∷ [])
+    ∷ example (1 ∷ 129 ∷ 0 ∷ []) (2 ∷ 1 ∷ [])
     ∷ example (255 ∷ 255 ∷ 255 ∷ 255 ∷ 255 ∷ []) (2 ∷ 0 ∷ [])
+    ∷ example (1 ∷ 1 ∷ 255 ∷ 255 ∷ 255 ∷ 255 ∷ 255 ∷ []) (2 ∷ 2 ∷ [])
     ∷ example (128 ∷ 128 ∷ 128 ∷ 128 ∷ 16 ∷ []) (2 ∷ 0 ∷ [])
     ∷ example (255 ∷ 255 ∷ 255 ∷ 255 ∷ 15 ∷ []) (4 ∷ 0 ∷ [])
     -- 3
@@ -162,7 +164,7 @@ ends =
     ∷ outside greatest 229 2 4 ∷ outside least 12 1 4 ∷ outside greatest 230 10 4
     ∷ []
 
--- of the writer, whose "offsets count numbers"; the reader has the same rule at each place (`ruleAt`)
+-- of the writer, whose "offsets count numbers"; the reader goes by the same table, in which only `modeRule` looks at the user
 pub ends-refused : map (λ (o : Outside). answers (listOf (changed o))) ends ≡ map (λ (o : Outside). o .refusal ∷ o .place ∷ []) ends
 unfolding listOf stepOn ruleAt fieldAt seenAfter
 ends-refused = refl

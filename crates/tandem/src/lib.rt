@@ -5,7 +5,8 @@ ghost use lib.ListN.{length};
 ghost use Rattle.sheet.specs.Valid.{Valid, serverCount, flowCount};
 ghost use Rattle.tandem.specs.OfSheet.{tandemOf};
 ghost use Rattle.tandem.specs.Loads.{Roomy, Added};
-ghost use Rattle.tandem.specs.Contract.{ServerCount, FlowCount, FlowTotal, ServerAt, CrossFlow, WatchedPlace, WatchedFlow, FlowAt, ListServers, ListFlows, FlowIn, LoadsOf, LowestCrowded};
+ghost use Rattle.tandem.specs.Contract.{ServerCount, FlowCount, FlowTotal, ServerAt, CrossFlow, WatchedPlace, WatchedFlow, FlowAt};
+ghost use Rattle.tandem.specs.Contract.{ListServers, ListFlows, FlowIn, LoadsOf, LowestCrowded};
 
 // A server: its rate R in bytes a slot and its latency T in slots.
 pub struct Server {

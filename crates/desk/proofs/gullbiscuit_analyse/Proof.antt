@@ -7,14 +7,14 @@ use lib.ListN.{length-take}
 use lib.Seq.{length-take-le}
 use Rattle.analysis.specs.Verdict.{recordNumbers}
 use Rattle.sheet.specs.DetailLaws.{gives-detail, encode-all-few}
-use Rattle.desk.proofs.Answering.{Listed, listed, Turned, turned}
+use Rattle.desk.proofs.Answering.{Answers, answers, Turned, turned}
 use borrow.Author.Needs.{needs}
 use Rattle.desk.proofs.gullbiscuit_analyse.Statement.{statement}
 use Rattle.desk.proofs.gullbiscuit_analyse.Tie as tie
 
 -- a bound, with its record
-heard : (c : tie.After-enum-told) → Listed (c .before .before .before .before .before .args .sheet .now) (c .before .before .analyse .result)
-heard c = listed _ _ (c .before .before .analyse .ensures .is) (c .enum-told .given .1)
+heard : (c : tie.After-enum-told) → Answers (c .before .before .before .before .before .args .sheet .now) (c .before .before .analyse .result)
+heard c = answers _ _ (c .before .before .analyse .ensures .is) (c .enum-told .given .1)
 
 -- a refusal, with its detail
 told : (c : tie.After-judged) → Turned (c .before .before .before .before .before .args .sheet .now) (c .judged .given .0 .0) (c .judged .given .0 .1 .0)

@@ -1,4 +1,4 @@
--- `row::groups_of` meets its contract. The invariant (`Listing`): the groups listed so far, and behind them those of the paths still to come, are all
+-- `row::groups_of` meets its contract. The invariant (`Gathering`): the groups listed so far, and behind them those of the paths still to come, are all
 -- that the row reads. The measure is how many first servers are left, seventeen steps for each, and the last servers left of the first one.
 -- Assumes nothing.
 use mathlib.Core.Path.{_≡_, refl, sym, _∙_}
@@ -15,12 +15,12 @@ use Rattle.row.specs.Groups.{path}
 use Rattle.row.specs.Parts.{reachOf, groupedFor}
 use Rattle.row.proofs.Answers.{lists-few}
 use Rattle.row.proofs.Reaching.{reach-inside}
-use Rattle.row.proofs.Grouping.{Listing, Listed, begin-listing, next-first, skip-path, room, list-path, grouped-is, end-listing, lent-listed, reach-is, lent-rates, lent-bursts}
+use Rattle.row.proofs.Grouping.{Gathering, Gatherable, begin-gathering, next-first, skip-path, room, list-path, grouped-is, end-gathering, lent-gatherable, reach-is, lent-rates, lent-bursts}
 use Rattle.row.proofs.groups_of.Statement.{statement}
 use Rattle.row.proofs.groups_of.Tie as tie
 
 abbrev Inv-loop : tie.InvT-loop
-Inv-loop servers size flows n reaches bursts rates groups₀ count₀ first₀ last₀ groups count first last = (1 ≤ first) × (first ≤ size + 1) × (last ≤ 16) × Listing (tandemIn servers size flows n) groups count first last
+Inv-loop servers size flows n reaches bursts rates groups₀ count₀ first₀ last₀ groups count first last = (1 ≤ first) × (first ≤ size + 1) × (last ≤ 16) × Gathering (tandemIn servers size flows n) groups count first last
 
 abbrev μ-loop : tie.MeasureT-loop
 μ-loop servers size flows n reaches bursts rates groups₀ count₀ first₀ last₀ groups count first last = (size + 1 - first) * 17 + last
@@ -32,15 +32,15 @@ row s = tandemIn (s .args .servers .now) (s .args .size) (s .args .flows .now) (
 row-long : (s : tie.Start Inv-loop μ-loop) → size (row s) ≡ s .args .size
 row-long s = length-listed (s .args .size) (serverIn (s .args .servers .now))
 
-listable : (s : tie.Start Inv-loop μ-loop) → Listed (row s)
-listable s = lent-listed (s .args .servers .now) (s .args .size) (s .args .flows .now) (s .args .n) (s .pre .lent) (lists-few (s .pre))
+gatherable : (s : tie.Start Inv-loop μ-loop) → Gatherable (row s)
+gatherable s = lent-gatherable (s .args .servers .now) (s .args .size) (s .args .flows .now) (s .args .n) (s .pre .lent) (lists-few (s .pre))
 
 -- the furthest last server of a first one
 furthest : (s : tie.Start Inv-loop μ-loop) (i : ℕ) → i < 18
     → (getD (s .args .reaches .now) i 0 ≡ reachOf (row s) i (length (row s .flows))) × (getD (s .args .reaches .now) i 0 ≤ 16)
 furthest s i h =
     let e = reach-is (s .args .servers .now) (s .args .size) (s .args .flows .now) (s .args .n) (s .args .reaches .now) (s .pre .reached) i h in
-    (e, omega (arith, e, reach-inside (row s) (listable s .inside) i, row-long s, s .pre .lent .laid .short))
+    (e, omega (arith, e, reach-inside (row s) (gatherable s .inside) i, row-long s, s .pre .lent .laid .short))
 
 slice-aggregate-add-sums : tie.Need-slice-aggregate-add-sums Inv-loop μ-loop
 slice-aggregate-add-sums c = search needs
@@ -69,7 +69,7 @@ loop-holds c = let f = c .before in
       omega arith,
       omega arith,
       furthest s 1 (omega arith) .1,
-      begin-listing (row s) (listable s) (f .flow-in .result)
+      begin-gathering (row s) (gatherable s) (f .flow-in .result)
           (f .flow-in .ensures .is ∙ sym (flow-held (s .args .flows .now) (s .args .n) 0 (s .pre .lent .laid .some))) (getD (s .args .reaches .now) 1 0) (furthest s 1 (omega arith) .0),
     )
 
@@ -101,7 +101,7 @@ loop-again c = let l = c .before .before .before in
       omega arith,
       omega (arith, t),
       r .1,
-      next-first (row (start l)) (listable (start l)) _ _ (l .loop .first) (l .loop .last) _ (l .loop .inv .3) (c .before .if1 .taken)
+      next-first (row (start l)) (gatherable (start l)) _ _ (l .loop .first) (l .loop .last) _ (l .loop .inv .3) (c .before .if1 .taken)
           (omega (arith, row-long (start l), t)) (r .0),
     )
 
@@ -150,7 +150,7 @@ moved c = omega (arith, c .if2 .taken, rated (c .before))
 space : (c : tie.Then2 Inv-loop μ-loop) → c .before .before .before .before .loop .count < 32
 space c =
     let l = c .before .before .before .before in
-    room (row (start l)) (listable (start l)) _ _ (l .loop .first) (l .loop .last) (l .loop .inv .3) (within (c .before .before) .2) (moved c)
+    room (row (start l)) (gatherable (start l)) _ _ (l .loop .first) (l .loop .last) (l .loop .inv .3) (within (c .before .before) .2) (moved c)
 
 mul-t32 : tie.Need-mul-t32 Inv-loop μ-loop
 mul-t32 c = omega (arith, place (c .before))
@@ -190,18 +190,18 @@ loop-again-2 c = let k = c .before in
       omega (arith, w .0),
       omega (arith, l .loop .inv .1),
       omega (arith, w .3),
-      rw (z .1, z .2) (list-path (row (start l)) (listable (start l)) _ _ (l .loop .first) (l .loop .last) v (w .2) (moved t) _
-          (grouped-is (row (start l)) (listable (start l)) (l .loop .first) (l .loop .last) _ _ (bursty k) (rated k))),
+      rw (z .1, z .2) (list-path (row (start l)) (gatherable (start l)) _ _ (l .loop .first) (l .loop .last) v (w .2) (moved t) _
+          (grouped-is (row (start l)) (gatherable (start l)) (l .loop .first) (l .loop .last) _ _ (bursty k) (rated k))),
     ))
     (λ z.
     let e : rates (row (start l)) (on (row (start l)) (path (l .loop .first) (l .loop .last))) ≡ 0 = omega (arith, z .0 .left, rated k) in
-    (omega (arith, w .0), omega (arith, l .loop .inv .1), omega (arith, w .3), rw (z .1, z .2) (skip-path (row (start l)) (listable (start l)) _ _ (l .loop .first) (l .loop .last) v (w .2) e)))
+    (omega (arith, w .0), omega (arith, l .loop .inv .1), omega (arith, w .3), rw (z .1, z .2) (skip-path (row (start l)) (gatherable (start l)) _ _ (l .loop .first) (l .loop .last) v (w .2) e)))
     (c .if2 .came)
 
 returns : tie.Need-returns Inv-loop μ-loop
 unfolding groupedFor
 returns c = let l = c .before in
-    let e = end-listing (row (start l)) (listable (start l)) _ _ (l .loop .first) (l .loop .last) (l .loop .inv .3) (omega (arith, row-long (start l), c .loop-test .left)) in
+    let e = end-gathering (row (start l)) (gatherable (start l)) _ _ (l .loop .first) (l .loop .last) (l .loop .inv .3) (omega (arith, row-long (start l), c .loop-test .left)) in
     λ t. record { count = e .1 t; groups = e .0 t }
 
 pub groups-of-spec : {M : Type 1} → statement M

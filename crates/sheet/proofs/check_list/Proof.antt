@@ -1,4 +1,4 @@
--- `sheet::check_list` meets its contract. The invariant (`Listing`): the numbers passed are the front of the list, their bytes are
+-- `sheet::check_list` meets its contract. The invariant (`Passing`): the numbers passed are the front of the list, their bytes are
 -- counted, and what the list is taken as is those put before what is taken from here. The measure is how many steps are left.
 -- Assumes nothing.
 use Prim.Native.Nat.{_+_, _-_, _<_}
@@ -12,12 +12,12 @@ use Rattle.fields.specs.Rule.{most}
 use Rattle.fields.specs.Step.{stepOn}
 use Rattle.sheet.specs.Sheet.{entryAt}
 use Rattle.sheet.proofs.Walking.{room, refused}
-use Rattle.sheet.proofs.Writing.{Listing, begin-listing, listed, turn-listing, finished-listing}
+use Rattle.sheet.proofs.Writing.{Passing, begin-passing, entry-passed, turn-passing, finished-passing}
 use Rattle.sheet.proofs.check_list.Statement.{statement}
 use Rattle.sheet.proofs.check_list.Tie as tie
 
 abbrev Inv-loop : tie.InvT-loop
-Inv-loop xs cursor₀ i₀ total₀ cursor i total = Listing xs cursor i total
+Inv-loop xs cursor₀ i₀ total₀ cursor i total = Passing xs cursor i total
 
 abbrev μ-loop : tie.MeasureT-loop
 μ-loop xs cursor₀ i₀ total₀ cursor i total = most + 1 - i
@@ -40,7 +40,7 @@ start-requires : tie.Need-start-requires Inv-loop μ-loop
 start-requires c κs = search needs
 
 loop-holds : tie.Need-loop-holds Inv-loop μ-loop
-loop-holds c = rw (c .start .ensures .is) (begin-listing (c .before .before .args .xs .now))
+loop-holds c = rw (c .start .ensures .is) (begin-passing (c .before .before .args .xs .now))
 
 entry-at-requires : tie.Need-entry-at-requires Inv-loop μ-loop
 entry-at-requires c κs = search needs
@@ -62,11 +62,11 @@ after-requires c κs = search needs
 
 loop-less : tie.Need-loop-less Inv-loop μ-loop
 loop-less c =
-    let k = listed (c .before .before .before .before .before .before .before .before .before .before .args .xs .now) (c .before .before .before .before .before .before .before .loop .cursor .rule) (c .before .before .before .before .before .before .before .loop .i) _ _ (value (c .before .before .before)) in
+    let k = entry-passed (c .before .before .before .before .before .before .before .before .before .before .args .xs .now) (c .before .before .before .before .before .before .before .loop .cursor .rule) (c .before .before .before .before .before .before .before .loop .i) _ _ (value (c .before .before .before)) in
     omega (arith, below (c .before .before .before), k .place)
 
 loop-again : tie.Need-loop-again Inv-loop μ-loop
-loop-again c = rw (c .after .ensures .is, c .before .width .ensures .is) (turn-listing _ _ (c .before .before .before .before .before .before .before .loop .inv) (value (c .before .before .before)))
+loop-again c = rw (c .after .ensures .is, c .before .width .ensures .is) (turn-passing _ _ (c .before .before .before .before .before .before .before .loop .inv) (value (c .before .before .before)))
 
 enum-known-why : tie.Need-enum-known-why Inv-loop μ-loop
 enum-known-why c = search needs
@@ -78,7 +78,7 @@ enum-told : tie.Need-enum-told Inv-loop μ-loop
 enum-told c = search needs
 
 returns-2 : tie.Need-returns-2 Inv-loop μ-loop
-returns-2 c = finished-listing (c .before .before .before .before .loop .inv) (stepped (c .before .before) ∙ c .enum-told .given .1)
+returns-2 c = finished-passing (c .before .before .before .before .loop .inv) (stepped (c .before .before) ∙ c .enum-told .given .1)
 
 pub check-list-spec : {M : Type 1} → statement M
 check-list-spec =

@@ -12,7 +12,7 @@ use Rattle.tandem.specs.declared.Flow.{Flow}
 use Rattle.tandem.specs.OfSheet.{tandemOf}
 use Rattle.tandem.specs.Lent.{spreadFlows}
 use Rattle.tandem.specs.LentLaws.{spread-flows-length}
-use Rattle.tandem.proofs.Listing.{Front, front-length, front-none, front-flow}
+use Rattle.tandem.proofs.Fronts.{Front, front-length, front-none, front-flow}
 use Rattle.tandem.proofs.list_flows.Statement.{statement}
 use Rattle.tandem.proofs.list_flows.Tie as tie
 

@@ -14,7 +14,7 @@ use Rattle.tandem.specs.OfSheet.{tandemOf}
 use Rattle.tandem.specs.OfSheetLaws.{row-size}
 use Rattle.tandem.specs.Lent.{spreadServers}
 use Rattle.tandem.specs.LentLaws.{spread-servers-length}
-use Rattle.tandem.proofs.Listing.{Front, front-length, front-none, front-server, server-listed}
+use Rattle.tandem.proofs.Fronts.{Front, front-length, front-none, front-server, server-listed}
 use Rattle.tandem.proofs.list_servers.Statement.{statement}
 use Rattle.tandem.proofs.list_servers.Tie as tie
 
