@@ -1,9 +1,9 @@
 -- What was written is read back: the decimal digits of a number below 2^32, with a blank behind them, are that number; a comment is passed
--- over; and a row of numbers, each with a line end behind it, is that row.
+-- over; and a line end alone says no number.
 -- Assumes nothing.
-use Prim.Native.Nat.{ℕ, zero, suc, _+_, _-_, _*_, _≤_, _<_}
-use mathlib.Core.Path.{_≡_, refl, ap, _∙_}
-use mathlib.Core.List.{List, [], _∷_, _++_, append-assoc}
+use Prim.Native.Nat.{ℕ, suc, _+_, _-_, _*_, _≤_, _<_}
+use mathlib.Core.Path.{_≡_, refl, _∙_}
+use mathlib.Core.List.{List, [], _∷_, _++_}
 use mathlib.Core.Bool.{true, false}
 use native.Mathlib.Omega.{arith}
 use lib.ListN.{length}
@@ -12,7 +12,7 @@ use Rattle.text.specs.Decimal.{decimal, valueAfter, valueOf}
 use Rattle.text.specs.DecimalLaws.{AllDigits, decimal-all, decimal-some, decimal-value}
 use Rattle.scribe.specs.declared.Mark.the-variants.{Between, Comment, Inside}
 use Rattle.scribe.specs.declared.Turn.the-variants as turn
-use Rattle.scribe.specs.Text.{isBlank, isDigit, outsideBy, longerBy, insideBy, turnOf, these, also, lineAfter, textFrom, textOf}
+use Rattle.scribe.specs.Text.{isBlank, isDigit, outsideBy, longerBy, insideBy, turnOf, these, also, lineAfter, textFrom}
 
 -- A digit, byte by byte.
 
@@ -89,34 +89,7 @@ pub comment-read : (room line : ℕ) (bs t : List ℕ) → OneLine bs
 unfolding turnOf outsideBy isBlank lineAfter
 comment-read room line bs t a = comment-passed room line bs t a
 
--- A row of numbers, each with a line end behind it.
-
-abbrev pub spelled : List ℕ → List ℕ
-spelled [] = []
-spelled (x ∷ xs) = decimal x ++ (10 ∷ spelled xs)
-
--- every number of a list is below 2^32
-abbrev pub Words : List ℕ → Type 0
-Words [] = Unit {0}
-Words (x ∷ xs) = (x < 4294967296) × Words xs
-
+-- A line end with nothing behind it.
 pub line-end-alone : (room line : ℕ) → textFrom room line Between (10 ∷ []) ≡ these []
 unfolding turnOf outsideBy isBlank
 line-end-alone room line = refl
-
-line-end-blank : (isDigit 10 ≡ false) × (isBlank 10 ≡ true)
-unfolding isDigit isBlank
-line-end-blank = (refl, refl)
-
-spelled-from : (room line : ℕ) (xs : List ℕ) → Words xs → length xs ≤ room
-    → textFrom room line Between (spelled xs ++ (10 ∷ [])) ≡ these xs
-spelled-from room line [] a h = line-end-alone room line
-spelled-from zero line (x ∷ xs) a h = absurd (omega arith)
-spelled-from (suc room) line (x ∷ xs) a h =
-    rw append-assoc
-    (number-read room line x 10 (spelled xs ++ (10 ∷ [])) (a .0) (line-end-blank .0) (line-end-blank .1)
-    ∙ ap (also x) (spelled-from room (lineAfter line 10) xs (a .1) (omega arith)))
-
-pub spelled-read : (room : ℕ) (xs : List ℕ) → Words xs → length xs ≤ room → textOf room (spelled xs) ≡ these xs
-unfolding textOf
-spelled-read room xs a h = spelled-from room 1 xs a h

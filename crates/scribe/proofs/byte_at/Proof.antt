@@ -4,11 +4,6 @@ use borrow.Author.Needs.{needs}
 use lib.ListN.{List·getD-eq-default}
 use mathlib.Core.Path.{sym}
 use Rattle.scribe.specs.TextLaws.{any-default}
-use borrow.Author.Needs.{needs}
-use lib.ListN.{List·getD-eq-default}
-use mathlib.Core.Path.{sym}
-use Rattle.scribe.specs.TextLaws.{any-default}
-use borrow.Author.Needs.{needs}
 use Rattle.scribe.proofs.byte_at.Statement.{statement}
 use Rattle.scribe.proofs.byte_at.Tie as tie
 

@@ -6,7 +6,6 @@ use native.Mathlib.Omega.{arith}
 use borrow.Author.Tests.{eq-eqb, ne-eqb}
 use Rattle.scribe.specs.Text.{insideBy}
 use Rattle.scribe.specs.TextLaws.{digit-range}
-use borrow.Author.Needs.{needs}
 use Rattle.scribe.proofs.inside.Statement.{statement}
 use Rattle.scribe.proofs.inside.Tie as tie
 use Rattle.scribe.proofs.is_blank.Reads as is-blank-reads

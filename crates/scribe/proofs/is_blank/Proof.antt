@@ -2,8 +2,6 @@
 -- Assumes nothing.
 use borrow.Author.Tests.{eq-eqb, ne-eqb}
 use Rattle.scribe.specs.Text.{isBlank}
-use borrow.Author.Tests.{eq-eqb, ne-eqb}
-use Rattle.scribe.specs.Text.{isBlank}
 use Rattle.scribe.proofs.is_blank.Statement.{statement}
 use Rattle.scribe.proofs.is_blank.Tie as tie
 

@@ -3,7 +3,6 @@
 use borrow.Author.Needs.{needs}
 use borrow.Author.Tests.{eq-eqb, ne-eqb}
 use Rattle.scribe.specs.Text.{lineAfter}
-use borrow.Author.Needs.{needs}
 use Rattle.scribe.proofs.line_after.Statement.{statement}
 use Rattle.scribe.proofs.line_after.Tie as tie
 

@@ -3,7 +3,6 @@
 use borrow.Author.Needs.{needs}
 use borrow.Author.Tests.{le-leb, lt-leb}
 use Rattle.scribe.specs.Text.{longerBy}
-use borrow.Author.Needs.{needs}
 use Rattle.scribe.proofs.longer.Statement.{statement}
 use Rattle.scribe.proofs.longer.Tie as tie
 

@@ -3,7 +3,6 @@
 use borrow.Author.Needs.{needs}
 use borrow.Author.Tests.{eq-eqb, ne-eqb}
 use Rattle.scribe.specs.Text.{turnOf}
-use borrow.Author.Needs.{needs}
 use Rattle.scribe.proofs.turn_of.Statement.{statement}
 use Rattle.scribe.proofs.turn_of.Tie as tie
 use Rattle.scribe.proofs.inside.Reads as inside-reads
