@@ -1,7 +1,7 @@
 -- Where the fields stand, and how long names and ranges are.
 -- Assumes nothing.
 use Prim.Native.Nat.{ℕ, zero, suc, _+_, _-_, _/_, _%_, _≤_, _<_}
-use mathlib.Core.Path.{_≡_}
+use mathlib.Core.Path.{_≡_, refl}
 use mathlib.Core.List.{List, []}
 use native.Mathlib.Omega.{arith}
 use borrow.Author.Tests.{lt-ltb, le-ltb}
@@ -79,6 +79,24 @@ name-at f k j e = rw e
 pub name-behind : (f k : ℕ) → 13 ≤ f → nameOf f k ≡ []
 unfolding nameOf
 name-behind f k h = List·getD-eq-default (names k) [] {n = f} h
+
+-- the names of the last fields have no number
+pub last-name : (f k j : ℕ) → 9 ≤ f → nameOf f k ≡ nameOf f j
+unfolding nameOf
+last-name zero k j h = absurd (omega arith)
+last-name (suc zero) k j h = absurd (omega arith)
+last-name (suc (suc zero)) k j h = absurd (omega arith)
+last-name (suc (suc (suc zero))) k j h = absurd (omega arith)
+last-name (suc (suc (suc (suc zero)))) k j h = absurd (omega arith)
+last-name (suc (suc (suc (suc (suc zero))))) k j h = absurd (omega arith)
+last-name (suc (suc (suc (suc (suc (suc zero)))))) k j h = absurd (omega arith)
+last-name (suc (suc (suc (suc (suc (suc (suc zero))))))) k j h = absurd (omega arith)
+last-name (suc (suc (suc (suc (suc (suc (suc (suc zero)))))))) k j h = absurd (omega arith)
+last-name (suc (suc (suc (suc (suc (suc (suc (suc (suc zero))))))))) k j h = refl
+last-name (suc (suc (suc (suc (suc (suc (suc (suc (suc (suc zero)))))))))) k j h = refl
+last-name (suc (suc (suc (suc (suc (suc (suc (suc (suc (suc (suc zero))))))))))) k j h = refl
+last-name (suc (suc (suc (suc (suc (suc (suc (suc (suc (suc (suc (suc zero)))))))))))) k j h = refl
+last-name (suc (suc (suc (suc (suc (suc (suc (suc (suc (suc (suc (suc (suc f))))))))))))) k j h = refl
 
 -- The field at a place, and whose it is, part by part.
 module _ (i : ℕ) (e : Extent) where

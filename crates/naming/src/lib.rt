@@ -82,27 +82,59 @@ fn owner_at(i: usize, e: Extent) -> usize
     (i - first) / 4 + 1
 }
 
-// Writes the name of a field, by its number in the table, at a place of a page that has room for it there, and gives the place behind it.
-fn put_name(field: usize, owner: usize, page: &mut [u8], at: usize) -> usize
-    requires { ⌜ at + length (nameOf field owner) ≤ length (now page) ⌝ }
+// Writes the name of one of the first fields, up to those of a server.
+fn put_server_name(field: usize, owner: usize, page: &mut [u8], at: usize) -> usize
+    requires { ⌜ (field ≤ 3) × (at + length (nameOf field owner) ≤ length (now page)) ⌝ }
     ensures { λ r. ⌜ Put (nameOf field owner) (now (page .entry)) at r (now (page .exit)) ⌝ }
 {
     match field {
         0 => text::put_word(b"edition", page, at),
         1 => text::put_word(b"number of servers", page, at),
         2 => text::put_field(b"rate of server ", owner as u64, page, at),
-        3 => text::put_field(b"latency of server ", owner as u64, page, at),
+        _ => text::put_field(b"latency of server ", owner as u64, page, at),
+    }
+}
+
+// Writes the name of the number of cross flows, or of a flow's field.
+fn put_flow_name(field: usize, owner: usize, page: &mut [u8], at: usize) -> usize
+    requires { ⌜ (4 ≤ field) × (field ≤ 8) × (at + length (nameOf field owner) ≤ length (now page)) ⌝ }
+    ensures { λ r. ⌜ Put (nameOf field owner) (now (page .entry)) at r (now (page .exit)) ⌝ }
+{
+    match field {
         4 => text::put_word(b"number of cross flows", page, at),
         5 => text::put_field(b"first server of flow ", owner as u64, page, at),
         6 => text::put_field(b"last server of flow ", owner as u64, page, at),
         7 => text::put_field(b"burst of flow ", owner as u64, page, at),
-        8 => text::put_field(b"rate of flow ", owner as u64, page, at),
+        _ => text::put_field(b"rate of flow ", owner as u64, page, at),
+    }
+}
+
+// Writes the name of one of the last fields, and none behind them.
+fn put_last_name(field: usize, page: &mut [u8], at: usize) -> usize
+    requires { ⌜ (9 ≤ field) × (at + length (nameOf field 1) ≤ length (now page)) ⌝ }
+    ensures { λ r. ⌜ Put (nameOf field 1) (now (page .entry)) at r (now (page .exit)) ⌝ }
+{
+    match field {
         9 => text::put_word(b"burst of the watched flow", page, at),
         10 => text::put_word(b"rate of the watched flow", page, at),
         11 => text::put_word(b"mode", page, at),
         12 => text::put_word(b"g", page, at),
         _ => at,
     }
+}
+
+// Writes the name of a field, by its number in the table, at a place of a page that has room for it there, and gives the place behind it.
+fn put_name(field: usize, owner: usize, page: &mut [u8], at: usize) -> usize
+    requires { ⌜ at + length (nameOf field owner) ≤ length (now page) ⌝ }
+    ensures { λ r. ⌜ Put (nameOf field owner) (now (page .entry)) at r (now (page .exit)) ⌝ }
+{
+    if field < 4 {
+        return put_server_name(field, owner, page, at);
+    }
+    if field < 9 {
+        return put_flow_name(field, owner, page, at);
+    }
+    put_last_name(field, page, at)
 }
 
 // Writes the name of the field at place i of a list with this extent, and gives the place behind it.
