@@ -4,11 +4,13 @@ use Prim.Native.Nat.{ℕ, zero, suc}
 use mathlib.Core.Path.{_≡_, refl, ap}
 use mathlib.Core.Logic.{inl}
 use native.Mathlib.Omega.{arith}
+use mathlib.Core.Bool.{false}
 use mathlib.Core.List.{List, [], _∷_, _++_}
 use Rattle.numbers.specs.Seven.{numberAt}
 use Rattle.numbers.specs.SevenLaws.{Bytes}
 use Rattle.fields.specs.declared.Why.the-variants.{Outside}
-use Rattle.fields.specs.Rule.{ruleAt, fieldAt, seenAfter}
+use Rattle.fields.specs.declared.Rule.the-variants.{Range}
+use Rattle.fields.specs.Rule.{ruleAt, fieldAt, seenAfter, allowed}
 use Rattle.fields.specs.Step.{stepOn}
 use Rattle.sheet.specs.Sheet.{sheetOf, listOf}
 use Rattle.text.specs.declared.Printed.the-variants.{Answer, Refusal}
@@ -73,3 +75,12 @@ second-printed = ap composedPrinted second-wrong
 pub second-told : Told second (2 ∷ []) Outside 0
 unfolding listOf stepOn ruleAt fieldAt seenAfter
 second-told = told second (2 ∷ []) Outside 0 (inl refl) refl
+
+-- what that law says of it: the whole line, and that 1..1 does not admit 2
+pub second-line : complaint second (2 ∷ []) Outside 0 ≡ complained
+unfolding textOf turnOf outsideBy insideBy longerBy isBlank isDigit lineAfter lineOf placeText nameAt nameOf ownerAt rangeOf endsOf fieldAt field decimal
+second-line = second-told .line
+
+pub second-barred : allowed (Range 1 1) 2 ≡ false
+unfolding fieldAt
+second-barred = second-told .barred
