@@ -24,7 +24,7 @@ static uint64_t field(struct record *r)
     return x;
 }
 
-/* What the library's entry answers, without the backlog, which its record does not have; gives NULL, or what is wrong with it. */
+/* What the library's entry answers; gives NULL, or what is wrong with it. */
 static const char *library_answer(const uint8_t *sheet, size_t len, const struct row *row, struct answer *a)
 {
     struct record r = {.at = 0};
@@ -62,7 +62,7 @@ const char *compare_answers(const uint8_t *sheet, size_t len, const struct row *
     best_search(row, &best);
     if (!is_same(&proved, plain))
         return "the proved analysis and plain C differ";
-    if (!is_same(&best, plain) || best.backlog != plain->backlog)
+    if (!is_same(&best, plain))
         return "best C and plain C differ";
     return NULL;
 }

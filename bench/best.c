@@ -171,20 +171,6 @@ static void climb(struct search *s, const struct row *row, uint64_t slots)
     choose(s, row->groups, slots, 0, 1);
 }
 
-/* The most of the watched flow that is inside at the end of a slot, with so many slots before its own: what it may send in them; where there
- * are none, what the servers' first slot leaves of what it may send in one. */
-static uint64_t backlog_of(const struct search *s, const struct row *row, uint64_t slots)
-{
-    if (slots > 0)
-        return row->watched.burst + row->watched.rate * slots;
-    const struct node *root = &s->node[s->groups];
-    uint64_t most = 0;
-    for (unsigned j = 0; j < s->servers; j++)
-        if (root->rate[j] + most < root->want[j])
-            most = root->want[j] - root->rate[j];
-    return most;
-}
-
 void best_search(const struct row *row, struct answer *a)
 {
     struct search s;
@@ -198,14 +184,11 @@ void best_search(const struct row *row, struct answer *a)
     if (row->mode == 0 && row->groups > 0)
         climb(&s, row, latency[row->servers]);
     a->bound = s.best >> 16;
-    uint64_t slots = latency[row->servers];
     for (unsigned k = 0; k < row->groups; k++) {
         const struct group *g = &row->group[k];
         uint64_t wait = latency[g->last + 1] - latency[g->first] + s.kept[k];
         for (unsigned d = k + 1; d < row->groups && row->group[d].first <= g->last; d++)
             wait += s.kept[d];
         a->wait[k] = wait;
-        slots += s.kept[k];
     }
-    a->backlog = backlog_of(&s, row, slots);
 }

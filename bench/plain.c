@@ -69,21 +69,8 @@ static void node(const struct row *row, const struct curve *left, unsigned d, co
     }
 }
 
-/* The most of the watched flow that is inside at the end of a slot: what it may send up to the offset, or what the first slot behind it leaves
- * of what it may send by then. */
-static uint64_t backlog_of(const struct row *row, const struct curve *c)
-{
-    uint64_t burst = row->watched.burst, rate = row->watched.rate, most = c->offset == 0 ? 0 : burst + rate * c->offset;
-    for (unsigned i = 0; i < c->count; i++) {
-        uint64_t given = c->stage[i].burst + c->stage[i].rate, sent = burst + rate * (c->offset + 1);
-        if (most + given < sent)
-            most = sent - given;
-    }
-    return most;
-}
-
-/* The delay at a point, the backlog and each group's wait. */
-static uint64_t delay_at(const struct row *row, const uint64_t *extra, uint64_t *backlog, uint64_t *wait)
+/* The delay at a point, and each group's wait. */
+static uint64_t delay_at(const struct row *row, const uint64_t *extra, uint64_t *wait)
 {
     struct curve left[MOST_GROUPS], root;
     for (unsigned k = row->groups; k-- > 0;) {
@@ -93,7 +80,6 @@ static uint64_t delay_at(const struct row *row, const uint64_t *extra, uint64_t 
         wait[k] = left[k].offset;
     }
     node(row, left, 0, &row->watched, &root);
-    *backlog = backlog_of(row, &root);
     uint64_t slots = catch_up(&root, row->watched.burst + row->watched.rate);
     return root.offset + (slots == 0 ? 0 : slots - 1);
 }
@@ -110,10 +96,9 @@ void plain_part(const struct row *row, uint64_t from, uint64_t to, struct answer
         extra[k] = step[digit[k]];
     }
     for (p = from; p < to; p++) {
-        uint64_t backlog, delay = delay_at(row, extra, &backlog, wait);
+        uint64_t delay = delay_at(row, extra, wait);
         if (delay < a->bound) {
             a->bound = delay;
-            a->backlog = backlog;
             memcpy(a->wait, wait, row->groups * sizeof *wait);
         }
         for (unsigned k = row->groups; k-- > 0;) {
@@ -129,6 +114,6 @@ void plain_search(const struct row *row, struct answer *a)
 {
     uint64_t none[MOST_GROUPS] = {0};
     a->groups = row->groups;
-    a->start = a->bound = delay_at(row, none, &a->backlog, a->wait);
+    a->start = a->bound = delay_at(row, none, a->wait);
     plain_part(row, 1, points_of(row), a);
 }

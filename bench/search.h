@@ -26,7 +26,7 @@ struct row {
 };
 
 struct answer {
-    uint64_t bound, start, backlog;
+    uint64_t bound, start;
     unsigned groups;
     uint64_t wait[MOST_GROUPS];
 };

@@ -1,9 +1,8 @@
-/* The analysis in plain C, written from documents 01 and 02: groups by path, the nesting tree with each group's parent looked up, every node's curve
+/* The analysis in plain C, written from document 01: groups by path, the nesting tree with each group's parent looked up, every node's curve
  * worked out anew from its children at every point of the grid, and no point passed over. */
 #include "analysis.h"
 #include "plain.h"
 
-#include <stdio.h>
 #include <string.h>
 
 enum { MOST_SERVERS = 16, MOST_FLOWS = 48, MOST_NUMBERS = 231, MOST_POINTS = 65536 };
@@ -232,58 +231,27 @@ static struct curve curve_of(const struct tree *tree, uint32_t node, const int64
     return c;
 }
 
-/* The bucket at slot u less the curve there, never below 0. */
-static int64_t excess(const struct curve *c, const struct flow *flow, int64_t u)
+/* The watched flow's delay at a point, and each group's wait there. */
+static int64_t at_point(const struct tree *tree, const int64_t *extra, int64_t *wait)
 {
-    int64_t sent = u == 0 ? 0 : flow->burst + flow->rate * u, given = 0;
-    for (size_t i = 0; i < c->stages && u > c->offset; i++) {
-        int64_t x = c->stage[i].b + c->stage[i].r * (u - c->offset);
-        if (i == 0 || x < given)
-            given = x;
-    }
-    return sent > given ? sent - given : 0;
-}
-
-/* The greatest excess over all slots: up to the offset the curve is 0 and the bucket rises, and from the slot behind it on the curve rises no less. */
-static int64_t backlog(const struct curve *c, const struct flow *flow)
-{
-    int64_t at = excess(c, flow, c->offset), behind = excess(c, flow, c->offset + 1);
-    return at > behind ? at : behind;
-}
-
-/* What stands at a point: the watched flow's delay and backlog, and each group's wait. */
-struct point {
-    int64_t delay, backlog, wait[PLAIN_MOST_GROUPS];
-};
-
-static void at_point(const struct tree *tree, const int64_t *extra, struct point *p)
-{
-    struct curve c = curve_of(tree, tree->groups, extra, p->wait);
-    p->delay = delay(&c, &tree->node[tree->groups]);
-    p->backlog = backlog(&c, &tree->node[tree->groups]);
-}
-
-/* The point is the best so far. */
-static void take_point(struct plain_verdict *v, const struct point *p)
-{
-    v->bound = p->delay;
-    v->backlog = p->backlog;
-    memcpy(v->wait, p->wait, sizeof v->wait);
+    struct curve c = curve_of(tree, tree->groups, extra, wait);
+    return delay(&c, &tree->node[tree->groups]);
 }
 
 /* Every point of the grid in order, counted from 0: the i of each group are the digits of the count to the base g, the last group's the
  * lowest. The first point with the least delay stands. */
 static void search(const struct tree *tree, uint32_t points, struct plain_verdict *v)
 {
-    int64_t extra[PLAIN_MOST_GROUPS];
-    struct point p = {0};
+    int64_t extra[PLAIN_MOST_GROUPS], wait[PLAIN_MOST_GROUPS] = {0};
     for (uint32_t point = 0; point < points; point++) {
         uint32_t digits = point;
         for (uint32_t k = tree->groups; k-- > 0; digits /= v->g)
             extra[k] = digits % v->g * v->start / (v->g - 1);
-        at_point(tree, extra, &p);
-        if (point == 0 || p.delay < v->bound)
-            take_point(v, &p);
+        int64_t d = at_point(tree, extra, wait);
+        if (point == 0 || d < v->bound) {
+            v->bound = d;
+            memcpy(v->wait, wait, sizeof wait);
+        }
     }
 }
 
@@ -317,10 +285,6 @@ void plain_analyse(const uint8_t *sheet, size_t sheet_len, struct plain_verdict 
     plant(&row, &tree);
     v->g = row.g;
     v->groups = tree.groups;
-    for (uint32_t k = 0; k < tree.groups; k++) {
-        v->first[k] = tree.node[k].first;
-        v->last[k] = tree.node[k].last;
-    }
     uint32_t points = 1;
     for (uint32_t k = 0; k < tree.groups && points <= MOST_POINTS; k++)
         points *= row.g;
@@ -330,10 +294,7 @@ void plain_analyse(const uint8_t *sheet, size_t sheet_len, struct plain_verdict 
     }
     too_large = 0;
     static const int64_t none[PLAIN_MOST_GROUPS];
-    struct point start = {0};
-    at_point(&tree, none, &start);
-    take_point(v, &start);
-    v->start = start.delay;
+    v->start = v->bound = at_point(&tree, none, v->wait);
     if (row.mode == 0)
         search(&tree, points, v);
     if (too_large) {
@@ -356,17 +317,6 @@ uint64_t plain_answer(const struct plain_verdict *v, uint8_t *answer, size_t ans
         return refusal(10, v->len);
     memcpy(answer, v->record, v->len);
     return v->len;
-}
-
-size_t plain_report(const struct plain_verdict *v, char *text, size_t room)
-{
-    if (v->refused != 0)
-        return (size_t)snprintf(text, room, "refused %u at %u\n", (unsigned)(v->refused >> 32), (unsigned)v->refused);
-    int n = snprintf(text, room, "bound %lld\nstart %lld\nbacklog %lld\ngrid %u\n", (long long)v->bound, (long long)v->start, (long long)v->backlog,
-                     (unsigned)v->g);
-    for (uint32_t k = 0; k < v->groups; k++)
-        n += snprintf(text + n, room - (size_t)n, "group %u %u wait %lld\n", (unsigned)v->first[k], (unsigned)v->last[k], (long long)v->wait[k]);
-    return (size_t)n;
 }
 
 /* A node's curve by its values at slots 0..slots. */
@@ -405,37 +355,21 @@ static void values_of(const struct tree *tree, uint32_t node, const int64_t *wai
     }
 }
 
-/* "for every s >= 0 the bucket at s is at most the curve at s + d", over these slots. */
-static int covers(const int64_t *sent, const int64_t *value, size_t slots, size_t d)
+int64_t plain_delay_by_slots(const uint8_t *sheet, size_t sheet_len, const int64_t *wait, size_t slots)
 {
-    for (size_t s = 0; s + d <= slots; s++)
-        if (sent[s] > value[s + d])
-            return 0;
-    return 1;
-}
-
-int plain_by_slots(const uint8_t *sheet, size_t sheet_len, const struct plain_verdict *v, struct plain_slots *seen)
-{
-    enum { PAST = 24 };
-    if (v->refused != 0 || v->bound + PAST > PLAIN_MOST_SLOTS)
-        return 0;
     uint32_t number[MOST_NUMBERS];
     struct row row;
     struct tree tree;
-    int64_t value[PLAIN_MOST_SLOTS + 1], sent[PLAIN_MOST_SLOTS + 1];
-    size_t slots = (size_t)v->bound + PAST, d = 0;
+    int64_t value[PLAIN_MOST_SLOTS + 1];
     plain_read_sheet(sheet, sheet_len, number, MOST_NUMBERS);
     lay_out(number, &row);
     plant(&row, &tree);
-    values_of(&tree, tree.groups, v->wait, slots, value);
-    seen->backlog = 0;
-    for (size_t u = 0; u <= slots; u++) {
-        sent[u] = u == 0 ? 0 : row.watched.burst + row.watched.rate * (int64_t)u;
-        if (sent[u] - value[u] > seen->backlog)
-            seen->backlog = sent[u] - value[u];
+    values_of(&tree, tree.groups, wait, slots, value);
+    for (size_t d = 0;; d++) {
+        int holds = 1;
+        for (size_t s = 0; s + d <= slots && holds; s++)
+            holds = (s == 0 ? 0 : row.watched.burst + row.watched.rate * (int64_t)s) <= value[s + d];
+        if (holds)
+            return (int64_t)d;
     }
-    while (!covers(sent, value, slots, d))
-        d++;
-    seen->delay = (int64_t)d;
-    return 1;
 }

@@ -15,8 +15,7 @@ use Rattle.analysis.specs.Verdict.{Listing, Verdict, refused, bounded, verdict_o
 
 -- a refusal, with nothing beside it
 abbrev pub blank : Why → ℕ → Analysed
-blank w d =
-    record { judged = Refused w d; bound = 0; start = 0; backlog = 0; grid = 0; count = 0; groups = replicate 32 no_flow; waits = replicate 32 0 }
+blank w d = record { judged = Refused w d; bound = 0; start = 0; grid = 0; count = 0; groups = replicate 32 no_flow; waits = replicate 32 0 }
 
 -- a listing, with the flows that it was worked out of
 abbrev pub filled : List Flow → Listing → Analysed
@@ -25,7 +24,6 @@ filled flows l =
       judged = Bounded;
       bound = l.bound;
       start = l.start;
-      backlog = l.backlog;
       grid = l.grid;
       count = length l.paths;
       groups = flows;
@@ -39,7 +37,6 @@ row_held row found =
       judged = Bounded;
       bound = found.best.delay;
       start = found.start;
-      backlog = found.best.backlog;
       grid = row.grid;
       count = row.count - 1;
       groups = row.groups;

@@ -1,5 +1,4 @@
--- What the analysis says of a sheet (document 01, "The sheet", "Refusals by number"; document 02, Wish 1): a refusal, or the bound with its record and
--- what the report lists beside it.
+-- What the analysis says of a sheet (document 01, "The sheet", "Refusals by number"): a refusal, or the bound with its record.
 -- Assumes nothing.
 use Rattle.std.specs.Prelude.{ℕ, cond, List, ◌∷◌, length}
 use Rattle.fields.specs.declared.Why.{Why}
@@ -15,11 +14,10 @@ use Rattle.row.specs.OfSheet.{grid_of, check_of}
 use Rattle.tree.specs.Bound.{searched}
 use Rattle.tree.specs.Large.{too_large}
 
--- "bound, start, g (0 replaced by its meaning), number of groups, each group's wait"; and for the report the backlog and the groups' paths
+-- "bound, start, g (0 replaced by its meaning), number of groups, each group's wait", and the groups' paths for the report
 pub record Listing : Type 0 where
   pub bound : ℕ
   pub start : ℕ
-  pub backlog : ℕ
   pub grid : ℕ
   pub paths : List Path
   pub waits : List ℕ
@@ -31,14 +29,7 @@ grid_used xs = grid_of (server_count xs) (grid xs)
 unfoldable pub listing_of : List ℕ → Listing
 listing_of xs =
     let found = searched (tandem_of xs) (mode xs) (grid_used xs) in
-    record {
-      bound = found.best.delay;
-      start = found.start;
-      backlog = found.best.backlog;
-      grid = grid_used xs;
-      paths = groups (tandem_of xs);
-      waits = found.best.waits;
-    }
+    record { bound = found.best.delay; start = found.start; grid = grid_used xs; paths = groups (tandem_of xs); waits = found.best.waits }
 
 -- a refusal with its detail, or the bound with its listing
 pub data Verdict : Type 0 where

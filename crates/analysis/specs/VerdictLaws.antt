@@ -24,9 +24,9 @@ use Rattle.tandem.specs.TestLaws.{decide}
 use Rattle.tree.specs.Grid.{Answer}
 use Rattle.tree.specs.Bound.{answer_at, searched}
 use Rattle.tree.specs.GridLaws.{found_at}
-use Rattle.tree.specs.SearchLaws.{answer_waits, searched_le_start, searched_start_small, searched_wait_le, searched_backlog_small}
+use Rattle.tree.specs.SearchLaws.{answer_waits, searched_le_start, searched_start_small, searched_wait_le}
 use Rattle.tree.specs.LargeLaws.{never_too_large}
-use Rattle.analysis.specs.Verdict.{Listing, grid_used, listing_of, refused, bounded, verdict_on, verdict_of, record_of}
+use Rattle.analysis.specs.Verdict.{Listing, grid_used, listing_of, refused, bounded, verdict_on, verdict_of}
 use Rattle.analysis.specs.Held.{blank, filled, numbers_held, analysed_of}
 
 -- the detail of a check that is not passed is small
@@ -99,7 +99,6 @@ case_of bytes = by (sheet_of bytes) refl
 pub record Small (l : Listing) : Type 0 where
   pub bound : l.bound < 2 ^ 30
   pub start : l.start < 2 ^ 30
-  pub backlog : l.backlog < 2 ^ 50
   pub grid : l.grid ≤ 9
   pub few : length l.paths ≤ 31
   pub waits : (k : ℕ) → get_or l.waits k 0 < 2 ^ 30
@@ -117,7 +116,6 @@ listing_small xs v passed =
     record {
       bound = omega (arith, s, b);
       start = s;
-      backlog = searched_backlog_small row ok p.limited (mode xs) (grid_used xs) g.0;
       grid = g.1;
       few = few_groups row ok p.limited;
       waits = λ k. omega (arith, s, b, searched_wait_le row ok (mode xs) (grid_used xs) g.0 k);
@@ -128,10 +126,3 @@ listing_small xs v passed =
     each =
         let x = found_at (answer_at (tandem_of xs)) (length (groups (tandem_of xs))) (mode xs) (grid_used xs) (grid_range xs v).0 in
         ap (λ (a : Answer). length a.waits) x.2 ∙ answer_waits (tandem_of xs) x.0
-
--- "the answer record stays": it has nothing of the backlog
-abbrev with_backlog : ℕ → Listing → Listing
-with_backlog b l = record { bound = l.bound; start = l.start; backlog = b; grid = l.grid; paths = l.paths; waits = l.waits }
-
-pub record_stays : (l : Listing) (b : ℕ) → record_of (with_backlog b l) ≡ record_of l
-record_stays l b = refl

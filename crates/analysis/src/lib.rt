@@ -16,14 +16,13 @@ pub enum Judged {
     Bounded,
 }
 
-// The analysis of a sheet, for the answer record and the report: the bound, the start, the backlog, the grid used, the number of groups; the
-// watched flow and behind it the groups, each as one flow; and each group's wait. All are 0 where the sheet is refused.
+// The analysis of a sheet, for the answer record and the report: the bound, the start, the grid used, the number of groups; the watched flow
+// and behind it the groups, each as one flow; and each group's wait. All are 0 where the sheet is refused.
 #[derive(Drop)]
 pub struct Analysed {
     pub judged: Judged,
     pub bound: u64,
     pub start: u64,
-    pub backlog: u64,
     pub grid: usize,
     pub count: usize,
     pub groups: [tandem::Flow; 32],
@@ -44,7 +43,6 @@ fn refused(why: Why, detail: usize) -> Analysed
         judged: Judged::Refused(why, detail),
         bound: 0,
         start: 0,
-        backlog: 0,
         grid: 0,
         count: 0,
         groups: [none; 32],
@@ -64,7 +62,6 @@ fn list_row(row: Row) -> Analysed
         judged: Judged::Bounded,
         bound: found.bound,
         start: found.start,
-        backlog: found.backlog,
         grid: row.grid,
         count: row.count - 1,
         groups: groups,

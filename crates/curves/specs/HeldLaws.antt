@@ -7,7 +7,7 @@ use Rattle.ground.specs.EachLaws.{each_both, each_map}
 use Rattle.ground.specs.Each.{Each}
 use Rattle.curves.specs.declared.Stage.{Stage}
 use Rattle.curves.specs.declared.Curve.{Curve}
-use Rattle.curves.specs.Curve.{Shape, line, server, joined, remainder, least_wait, Rates}
+use Rattle.curves.specs.Curve.{Shape, line, server, joined, remainder, least_wait, delay, Rates}
 use Rattle.curves.specs.Slots.{bucket}
 use Rattle.curves.specs.SlotsLaws.{bucket_after}
 use Rattle.curves.specs.Held.{shape_of, spare, held, Holds, Live, Leaves, InRange, Leaving}
@@ -97,6 +97,9 @@ holds_remainder σ ρ θ h j = rw (← h.shape) j
 
 pub holds_wait : {a : Curve} {c : Shape} (σ w : ℕ) → Holds a c → w ≡ least_wait (shape_of a) σ → w ≡ least_wait c σ
 holds_wait σ w h e = rw (← h.shape) e
+
+pub holds_delay : {a : Curve} {c : Shape} (σ ρ d : ℕ) → Holds a c → d ≡ delay (shape_of a) σ ρ → d ≡ delay c σ ρ
+holds_delay σ ρ d h e = rw (← h.shape) e
 
 -- one server more, put behind the stages of the record itself
 pub holds_server : {a : Curve} {c : Shape} (R T : ℕ) → Holds a c → a.count < length a.stages

@@ -39,7 +39,7 @@ unfolding points_of
 point_figure = (refl, refl)
 
 -- of points with the delays 5, 3 and 3 the second has the least key
-pub key_figure : least_of 500 (keys_from 100 (λ p. record { delay = get_or p 0 0; backlog = 0; waits = [] }) 0 ((5 ∷ []) ∷ (3 ∷ []) ∷ (3 ∷ []) ∷ [])) ≡ 301
+pub key_figure : least_of 500 (keys_from 100 (λ p. record { delay = get_or p 0 0; waits = [] }) 0 ((5 ∷ []) ∷ (3 ∷ []) ∷ (3 ∷ []) ∷ [])) ≡ 301
 key_figure = refl
 
 -- a group waits for the servers under its path alone

@@ -19,6 +19,11 @@ pub put_three : (a b c before : List ℕ) (at : ℕ) {first second after : List 
     → Put c second q r after → Put (a ++ (b ++ c)) before at r after
 put_three a b c before at {first} {second} {after} {p} {q} {r} x y z = put_then a (b ++ c) before at x (put_then b c first p y z)
 
+pub put_four : (a b c d before : List ℕ) (at : ℕ) {first second third after : List ℕ} {p q r e : ℕ} → Put a before at p first → Put b first p q second
+    → Put c second q r third → Put d third r e after → Put (a ++ (b ++ (c ++ d))) before at e after
+put_four a b c d before at {first} {second} {third} {after} {p} {q} {r} {e} x y z w =
+    put_then a (b ++ (c ++ d)) before at x (put_three b c d first p y z w)
+
 -- the lines of the groups: what is left to put is the lines of the groups from i on
 pub record Filling (groups : List Flow) (waits : List ℕ) (n : ℕ) (first : List ℕ) (from : ℕ) (page : List ℕ) (at i : ℕ) : Type 0 where
   pub left : ℕ

@@ -1,12 +1,11 @@
--- The report of P7, which document 01 prints in full and to which document 02, Wish 1, adds a line, the report of P8, whose groups differ, and the refusals of P10 and of a sheet with no byte.
+-- The report of P7, which document 01 prints in full, the report of P8, whose groups differ, and the refusals of P10 and of a sheet with no byte.
 -- Assumes nothing.
 use Rattle.std.specs.Prelude.{◌≡◌, refl, List, [], ◌∷◌, ◌++◌, ℕ}
 use Rattle.numbers.specs.Seven.{number_at}
 use Rattle.fields.specs.Rule.{rule_at, field_at, seen_after}
 use Rattle.fields.specs.Step.{step_on}
 use Rattle.sheet.specs.Sheet.{sheet_of}
-use Rattle.curves.specs.Slots.{bucket}
-use Rattle.curves.specs.Curve.{server, neutral, joined, ceil, greatest, catch_up, least_wait, remainder, lateness, delay, backlog}
+use Rattle.curves.specs.Curve.{server, neutral, joined, ceil, greatest, catch_up, least_wait, remainder, lateness, delay}
 use Rattle.tandem.specs.Sums.{total, any}
 use Rattle.tandem.specs.Tandem.{crosses, on, bursts, rates}
 use Rattle.row.specs.Groups.{used, from, from_on, groups, grouped, reads}
@@ -17,7 +16,7 @@ use Rattle.row.specs.OfSheet.{grid_of, check_of}
 use Rattle.tree.specs.Grid.{steps_of, points_of, better, found_of}
 use Rattle.tree.specs.Stretch.{group_wait, after_group, curve}
 use Rattle.tree.specs.Tree.{stretch_from, top, tree}
-use Rattle.tree.specs.Bound.{bound, backlog_bound, waits, answer_at, searched}
+use Rattle.tree.specs.Bound.{bound, waits, answer_at, searched}
 use Rattle.tree.specs.Plan.{plan, node_of, node_curve, along, top_of}
 use Rattle.tree.specs.Large.{too_large, large_at, some, large_node, large_curve}
 use Rattle.text.specs.declared.Printed.TheVariants.{Answer, Refusal}
@@ -30,19 +29,18 @@ use Rattle.listing.specs.Text.{group_line, group_lines, figure_lines, report_of,
 abbrev pub sheet7 : List ℕ
 sheet7 = 1 ∷ 1 ∷ 10 ∷ 0 ∷ 1 ∷ 1 ∷ 1 ∷ 10 ∷ 6 ∷ 12 ∷ 4 ∷ 0 ∷ 4 ∷ []
 
--- "bound 3", "start 4", "backlog 20", "grid 4", "group 1 1 wait 2"
+-- "bound 3", "start 4", "grid 4", "group 1 1 wait 2"
 abbrev pub text7 : List ℕ
 text7 =
     (98 ∷ 111 ∷ 117 ∷ 110 ∷ 100 ∷ 32 ∷ 51 ∷ 10 ∷ [])
     ++ (115 ∷ 116 ∷ 97 ∷ 114 ∷ 116 ∷ 32 ∷ 52 ∷ 10 ∷ [])
-    ++ (98 ∷ 97 ∷ 99 ∷ 107 ∷ 108 ∷ 111 ∷ 103 ∷ 32 ∷ 50 ∷ 48 ∷ 10 ∷ [])
     ++ (103 ∷ 114 ∷ 105 ∷ 100 ∷ 32 ∷ 52 ∷ 10 ∷ [])
     ++ (103 ∷ 114 ∷ 111 ∷ 117 ∷ 112 ∷ 32 ∷ 49 ∷ 32 ∷ 49 ∷ 32 ∷ 119 ∷ 97 ∷ 105 ∷ 116 ∷ 32 ∷ 50 ∷ 10 ∷ [])
 
 pub report7 : report_of (verdict_of sheet7) ≡ text7
 unfolding report_of refusal_line figure_lines group_lines group_line line field decimal verdict_of verdict_on listing_of searched found_of steps_of listed
     points_of better answer_at bound waits tree top stretch_from curve after_group group_wait server neutral joined ceil greatest catch_up least_wait remainder
-    lateness delay backlog_bound backlog bucket total any crosses on bursts rates used from from_on groups grouped reads overlaps not_nested crowded lowest_crowded too_many too_large
+    lateness delay total any crosses on bursts rates used from from_on groups grouped reads overlaps not_nested crowded lowest_crowded too_many too_large
     large_at some large_node large_curve plan node_of node_curve along top_of tandem_of grid_of check_of sheet_of step_on rule_at field_at seen_after number_at
 report7 = refl
 
@@ -50,13 +48,12 @@ report7 = refl
 abbrev pub sheet8 : List ℕ
 sheet8 = 1 ∷ 3 ∷ 10 ∷ 1 ∷ 10 ∷ 1 ∷ 10 ∷ 1 ∷ 3 ∷ 1 ∷ 1 ∷ 4 ∷ 2 ∷ 2 ∷ 3 ∷ 4 ∷ 2 ∷ 3 ∷ 3 ∷ 4 ∷ 2 ∷ 6 ∷ 2 ∷ 0 ∷ 2 ∷ []
 
--- "bound 6", "start 6", "backlog 18", "grid 2", "group 1 1 wait 2", "group 2 3 wait 4", "group 3 3 wait 2": the grid is not the start, a group's last server is not its
+-- "bound 6", "start 6", "grid 2", "group 1 1 wait 2", "group 2 3 wait 4", "group 3 3 wait 2": the grid is not the start, a group's last server is not its
 -- first, and the groups stand in their order, each with its own wait
 abbrev pub text8 : List ℕ
 text8 =
     (98 ∷ 111 ∷ 117 ∷ 110 ∷ 100 ∷ 32 ∷ 54 ∷ 10 ∷ [])
     ++ (115 ∷ 116 ∷ 97 ∷ 114 ∷ 116 ∷ 32 ∷ 54 ∷ 10 ∷ [])
-    ++ (98 ∷ 97 ∷ 99 ∷ 107 ∷ 108 ∷ 111 ∷ 103 ∷ 32 ∷ 49 ∷ 56 ∷ 10 ∷ [])
     ++ (103 ∷ 114 ∷ 105 ∷ 100 ∷ 32 ∷ 50 ∷ 10 ∷ [])
     ++ (103 ∷ 114 ∷ 111 ∷ 117 ∷ 112 ∷ 32 ∷ 49 ∷ 32 ∷ 49 ∷ 32 ∷ 119 ∷ 97 ∷ 105 ∷ 116 ∷ 32 ∷ 50 ∷ 10 ∷ [])
     ++ (103 ∷ 114 ∷ 111 ∷ 117 ∷ 112 ∷ 32 ∷ 50 ∷ 32 ∷ 51 ∷ 32 ∷ 119 ∷ 97 ∷ 105 ∷ 116 ∷ 32 ∷ 52 ∷ 10 ∷ [])
@@ -65,7 +62,7 @@ text8 =
 pub report8 : report_of (verdict_of sheet8) ≡ text8
 unfolding report_of refusal_line figure_lines group_lines group_line line field decimal verdict_of verdict_on listing_of searched found_of steps_of listed
     points_of better answer_at bound waits tree top stretch_from curve after_group group_wait server neutral joined ceil greatest catch_up least_wait remainder
-    lateness delay backlog_bound backlog bucket total any crosses on bursts rates used from from_on groups grouped reads overlaps not_nested crowded lowest_crowded too_many too_large
+    lateness delay total any crosses on bursts rates used from from_on groups grouped reads overlaps not_nested crowded lowest_crowded too_many too_large
     large_at some large_node large_curve plan node_of node_curve along top_of tandem_of grid_of check_of sheet_of step_on rule_at field_at seen_after number_at
 report8 = refl
 
@@ -91,10 +88,10 @@ unfolding report_of refusal_line line field decimal verdict_of verdict_on sheet_
 report0 = refl
 
 -- a report is an answer of so many bytes, and a refusal is none
-pub printed7 : printed_of (verdict_of sheet7) ≡ Answer 51
+pub printed7 : printed_of (verdict_of sheet7) ≡ Answer 40
 unfolding printed_of report_of refusal_line figure_lines group_lines group_line line field decimal verdict_of verdict_on listing_of searched found_of steps_of listed
     points_of better answer_at bound waits tree top stretch_from curve after_group group_wait server neutral joined ceil greatest catch_up least_wait remainder
-    lateness delay backlog_bound backlog bucket total any crosses on bursts rates used from from_on groups grouped reads overlaps not_nested crowded lowest_crowded too_many too_large
+    lateness delay total any crosses on bursts rates used from from_on groups grouped reads overlaps not_nested crowded lowest_crowded too_many too_large
     large_at some large_node large_curve plan node_of node_curve along top_of tandem_of grid_of check_of sheet_of step_on rule_at field_at seen_after number_at
 printed7 = refl
 

@@ -23,7 +23,7 @@ abbrev pub groups_held : Analysed → List ℕ
 groups_held a = lines_of a.count (drop 1 a.groups) a.waits
 
 abbrev pub listing_held : Analysed → List ℕ
-listing_held a = figure_lines a.bound a.start a.backlog a.grid (groups_held a)
+listing_held a = figure_lines a.bound a.start a.grid (groups_held a)
 
 -- by what the analysis says
 abbrev pub text_where : Judged → Analysed → List ℕ

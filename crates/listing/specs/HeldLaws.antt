@@ -75,7 +75,7 @@ text_short bytes = by (case_of bytes)
         rw v (omega (
           arith,
           (listing_small xs ok p).few,
-          figures_short l.bound l.start l.backlog l.grid (group_lines l.paths l.waits),
+          figures_short l.bound l.start l.grid (group_lines l.paths l.waits),
           groups_short l.paths l.waits,
         ))
 

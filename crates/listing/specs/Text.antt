@@ -1,6 +1,5 @@
 -- The report's text (document 01, "Figures to hold it to"): "bound and start in slots; the grid used; then each group's first and last server
--- and its wait in slots", with the backlog in bytes "after `start`" (document 02, Wish 1); or "A refusal prints one line: number, detail". Words are in
--- ASCII codes, and each line ends with one line end.
+-- and its wait in slots", or "A refusal prints one line: number, detail". Words are in ASCII codes, and each line ends with one line end.
 -- Assumes nothing.
 use Rattle.std.specs.Prelude.{ℕ, List, [], ◌∷◌, ◌++◌, length}
 use Rattle.text.specs.declared.Printed.{Printed}
@@ -18,10 +17,6 @@ bound_word = 98 ∷ 111 ∷ 117 ∷ 110 ∷ 100 ∷ 32 ∷ []
 -- "start "
 abbrev pub start_word : List ℕ
 start_word = 115 ∷ 116 ∷ 97 ∷ 114 ∷ 116 ∷ 32 ∷ []
-
--- "backlog "
-abbrev pub backlog_word : List ℕ
-backlog_word = 98 ∷ 97 ∷ 99 ∷ 107 ∷ 108 ∷ 111 ∷ 103 ∷ 32 ∷ []
 
 -- "grid "
 abbrev pub grid_word : List ℕ
@@ -48,15 +43,14 @@ unfoldable pub group_lines : List Path → List ℕ → List ℕ
 group_lines [] waits = []
 group_lines (g ∷ gs) waits = group_line g.first g.last (head_of waits) ++ group_lines gs (tail_of waits)
 
--- `bound D`, `start S`, `backlog B`, `grid G`, and then other lines
-unfoldable pub figure_lines : ℕ → ℕ → ℕ → ℕ → List ℕ → List ℕ
-figure_lines bound start backlog grid others =
-    line bound_word bound ++ (line start_word start ++ (line backlog_word backlog ++ (line grid_word grid ++ others)))
+-- `bound B`, `start S`, `grid G`, and then other lines
+unfoldable pub figure_lines : ℕ → ℕ → ℕ → List ℕ → List ℕ
+figure_lines bound start grid others = line bound_word bound ++ (line start_word start ++ (line grid_word grid ++ others))
 
 -- the report of a verdict
 unfoldable pub report_of : Verdict → List ℕ
 report_of (refused w d) = refusal_line (refusal w) d
-report_of (bounded l) = figure_lines l.bound l.start l.backlog l.grid (group_lines l.paths l.waits)
+report_of (bounded l) = figure_lines l.bound l.start l.grid (group_lines l.paths l.waits)
 
 -- what there is to print of it: the listing is an answer
 unfoldable pub printed_of : Verdict → Printed

@@ -44,8 +44,7 @@ fn put_listing(found: Analysed, page: &mut [u8]) -> usize
 {
     let bound = text::put_line(b"bound ", found.bound, page, 0);
     let start = text::put_line(b"start ", found.start, page, bound);
-    let backlog = text::put_line(b"backlog ", found.backlog, page, start);
-    let grid = text::put_line(b"grid ", found.grid as u64, page, backlog);
+    let grid = text::put_line(b"grid ", found.grid as u64, page, start);
     put_groups(found, page, grid)
 }
 

@@ -12,14 +12,15 @@ use lib.ListN.{length, drop, get_or, set, replicate, length-set, length-map, rep
 use lib.Seq.{drop-cons, get_or-set_same, get_or-set_other}
 use Rattle.tandem.specs.Tandem.{no_flow}
 use Rattle.curves.specs.declared.Curve.{Curve}
-use Rattle.curves.specs.Curve.{Shape}
+use Rattle.curves.specs.Curve.{Shape, delay}
 use Rattle.curves.specs.Held.{Holds}
 use Rattle.tandem.specs.declared.Server.{Server}
 use Rattle.tandem.specs.declared.Flow.{Flow}
 use Rattle.tree.specs.Plan.{Node, Top, alone, over, top_of, node_of, plan}
+use Rattle.point.specs.declared.Point.{Point}
 use Rattle.tree.specs.Planned.{waits_of, answer_of}
 use Rattle.tree.specs.NodeLaws.{plan_from, curve_at, node_at, plan_length, plan_at}
-use Rattle.point.specs.Point.{root_point, point_of}
+use Rattle.point.specs.Point.{point_of}
 
 abbrev pub no_curve : Curve
 no_curve = record { offset = 0; count = 0; stages = [] }
@@ -150,9 +151,10 @@ module _ (ss : List Server) (gs : List Flow) (xs : List ℕ) where
 
 -- the watched flow's node is the last: what the code gives is the answer at the point
 pub upto_root : (ss : List Server) (gs : List Flow) (es : List ℕ) (ls : List Curve) (ws ts : List ℕ) → Upto ss gs (0 ∷ es) 1 ls ws ts → 0 < length gs
-    → root_point (curve_at ss gs (0 ∷ es) 0) (get_or gs 0 no_flow) ws ≡ point_of (answer_of ss gs es)
+    → (d : ℕ) → d ≡ delay (curve_at ss gs (0 ∷ es) 0) (get_or gs 0 no_flow).burst (get_or gs 0 no_flow).rate
+    → ◌≡◌ {A = Point} (record { delay = d; waits = ws }) (point_of (answer_of ss gs es))
 unfolding answer_of point_of plan node_of
-upto_root ss [] es ls ws ts u p = absurd (omega arith)
-upto_root ss (g ∷ gs) es ls ws ts u p =
+upto_root ss [] es ls ws ts u p d e = absurd (omega arith)
+upto_root ss (g ∷ gs) es ls ws ts u p d e =
     let l : length (waits_of (plan ss gs es)) ≡ suc (length gs) - 1 = omega (arith, length-map (plan ss gs es) (λ (n : Node). n.wait), plan_length ss gs es) in
-    rw (u.waits, l)
+    rw (e, u.waits, l)

@@ -1,7 +1,6 @@
 -- What stands at a point of a row's grid, as the code holds it, and what is asked of the row.
 -- Assumes nothing.
 use Rattle.std.specs.Prelude.{List, ℕ, ◌-◌, ◌≤◌, ◌<◌, take, get_or}
-use Rattle.curves.specs.Curve.{Shape, delay, backlog}
 use Rattle.tandem.specs.Tandem.{no_flow}
 use Rattle.tandem.specs.declared.Server.{Server}
 use Rattle.tandem.specs.declared.Flow.{Flow}
@@ -29,11 +28,7 @@ extras_of row extra = take (row.count - 1) extra
 
 -- an answer as the code holds it: behind the groups' waits stand zeros
 unfoldable pub point_of : Answer → Point
-point_of a = record { delay = a.delay; backlog = a.backlog; waits = padded 32 0 a.waits }
-
--- what the code holds where the root has the curve c: the delay and the backlog of the watched flow, and the waits
-abbrev pub root_point : Shape → Flow → List ℕ → Point
-root_point c w waits = record { delay = delay c w.burst w.rate; backlog = backlog c w.burst w.rate; waits = waits }
+point_of a = record { delay = a.delay; waits = padded 32 0 a.waits }
 
 -- the row's own numbers
 pub record Shaped (row : Row) : Type 0 where

@@ -1,22 +1,17 @@
 // One point of a row's grid over the nesting tree, with whole curves: an array of curve records, child before parent.
-ghost use Rattle.std.specs.Prelude.{◌≡◌, ◌∷◌, ◌+◌, ◌<◌, ◌^◌};
-ghost use Rattle.curves.specs.Slots.{bucket};
-ghost use Rattle.curves.specs.Curve.{Rates};
-ghost use Rattle.curves.specs.Held.{shape_of, InRange};
+ghost use Rattle.std.specs.Prelude.{◌≡◌, ◌∷◌};
 ghost use Rattle.tree.specs.Plan.{plan};
 ghost use Rattle.tree.specs.Fine.{AllFine};
-ghost use Rattle.point.specs.Point.{servers_of, flows_of, extras_of, root_point, Shaped};
+ghost use Rattle.point.specs.Point.{servers_of, flows_of, extras_of, Shaped};
 ghost use Rattle.point.specs.Contract.{Evaluate};
 
 use curves::{Curve, Stage};
 use row::Row;
-use tandem::Flow;
 
-// What stands at a point: the watched flow's delay and backlog, and each group's wait in order.
+// What stands at a point: the watched flow's delay, and each group's wait in order.
 #[derive(Drop)]
 pub struct Point {
     pub delay: u64,
-    pub backlog: u64,
     pub waits: [u64; 32],
 }
 
@@ -30,18 +25,6 @@ fn stage_of(rate: u64) -> Stage
     }
 }
 
-// What stands at a point whose root has the curve c: the delay and the backlog of the watched flow w, and the waits.
-fn at_root(c: Curve, w: Flow, waits: [u64; 32]) -> Point
-    requires { InRange c × Rates w.rate (shape_of c).stages × (w.burst + w.rate < 2 ^ 40) × (bucket w.burst w.rate (c.offset + 1) < 2 ^ 63) }
-    ensures { result ≡ root_point (shape_of c) w waits }
-{
-    Point {
-        delay: c.delay(w.burst, w.rate),
-        backlog: c.backlog(w.burst, w.rate),
-        waits: waits,
-    }
-}
-
 // The nodes from the last group to the watched flow, each from those behind it. Of the groups behind node k, tops[j] is the outermost
 // that begins at server j, 0 where there is none, and lefts holds what each leaves.
 pub fn evaluate(row: Row, extra: [u64; 32]) -> Point
@@ -52,15 +35,13 @@ pub fn evaluate(row: Row, extra: [u64; 32]) -> Point
     let mut lefts = [none; 32];
     let mut waits = [0u64; 32];
     let mut tops = [0usize; 17];
-    let mut c = none;
     let mut k = row.count;
     loop {
         k = k - 1;
         let g = row.groups[k];
         let first = g.first;
         let last = g.last;
-        c.offset = 0;
-        c.count = 0;
+        let mut c = none;
         let mut j = first;
         while j <= last {
             let t = tops[j];
@@ -77,7 +58,10 @@ pub fn evaluate(row: Row, extra: [u64; 32]) -> Point
             }
         }
         if k == 0 {
-            return at_root(c, g, waits);
+            return Point {
+                delay: c.delay(g.burst, g.rate),
+                waits: waits,
+            };
         }
         let least = c.least_wait(g.burst);
         let wait = least + extra[k - 1];

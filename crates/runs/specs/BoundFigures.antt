@@ -1,8 +1,7 @@
--- The bound that demand 3 speaks of is the one of the sheet's own mode and grid, and so is the backlog: figures of documents 01 and 02.
+-- The bound that demand 3 speaks of is the one of the sheet's own mode and grid: figures of document 01.
 -- Assumes nothing.
 use Rattle.std.specs.Prelude.{ℕ, ◌≡◌, refl, List, [], ◌∷◌}
-use Rattle.curves.specs.Slots.{bucket}
-use Rattle.curves.specs.Curve.{neutral, joined, ceil, greatest, catch_up, least_wait, remainder, lateness, delay, backlog}
+use Rattle.curves.specs.Curve.{neutral, joined, ceil, greatest, catch_up, least_wait, remainder, lateness, delay}
 use Rattle.curves.specs.Curve.{server as serverShape}
 use Rattle.tandem.specs.Sums.{total, any}
 use Rattle.tandem.specs.Tandem.{on, bursts, rates}
@@ -12,8 +11,8 @@ use Rattle.row.specs.OfSheet.{grid_of}
 use Rattle.tree.specs.Stretch.{group_wait, after_group, curve}
 use Rattle.tree.specs.Tree.{stretch_from, top, tree}
 use Rattle.tree.specs.Grid.{steps_of, points_of, better, found_of}
-use Rattle.tree.specs.Bound.{bound, backlog_bound, waits, answer_at, searched}
-use Rattle.runs.specs.Demand.{bound_of, backlog_of}
+use Rattle.tree.specs.Bound.{bound, waits, answer_at, searched}
+use Rattle.runs.specs.Demand.{bound_of}
 
 -- P5 and P6, "R 10, T 0; cross 10, 6; watched 12, 4", by mode and g
 abbrev pub sheet : ℕ → ℕ → List ℕ
@@ -30,10 +29,3 @@ pub by_mode : bound_of (sheet 1 3) ≡ 4
 unfolding bound_of searched found_of answer_at waits bound steps_of points_of better tandem_of listed grid_of groups from_on from used any on
     tree stretch_from top curve joined neutral serverShape after_group group_wait least_wait catch_up remainder bursts rates total delay lateness greatest ceil
 by_mode = refl
-
--- "backlog 20 for P7", which has g 4; at the points on which the bounds of P5, P6 and of mode 1 stand
-pub backlog_by_grid : (backlog_of (sheet 0 4) ≡ 20) × (backlog_of (sheet 0 2) ≡ 16) × (backlog_of (sheet 0 3) ≡ 24) × (backlog_of (sheet 1 3) ≡ 16)
-unfolding backlog_of backlog_bound searched found_of answer_at waits bound steps_of points_of better tandem_of listed grid_of groups from_on from used any on
-    tree stretch_from top curve joined neutral serverShape after_group group_wait least_wait catch_up remainder bursts rates total delay lateness greatest ceil
-    backlog bucket
-backlog_by_grid = (refl, refl, refl, refl)

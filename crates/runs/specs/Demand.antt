@@ -1,7 +1,6 @@
--- What demand 3 says: each byte of the watched flow is out in time, for the bound of demand 2; and what document 02, Wish 1, says beside it: how many
--- of its bytes are inside the row, for the backlog.
+-- What demand 3 says: each byte of the watched flow is out in time, for the bound of demand 2.
 -- Assumes nothing.
-use Rattle.std.specs.Prelude.{ℕ, ◌+◌, ◌-◌, ◌≤◌, ◌≡◌, length}
+use Rattle.std.specs.Prelude.{ℕ, ◌+◌, ◌≤◌, ◌≡◌}
 use mathlib.Core.List.{List, Memᴰ}
 use Rattle.sheet.specs.Valid.{server_count, mode, grid}
 use Rattle.tandem.specs.Tandem.{Tandem, size}
@@ -21,19 +20,6 @@ OnTime row {B} run H d =
 abbrev pub Within : {B : Type 0} → Run B → ℕ → ℕ → ℕ → ℕ → Type 0
 Within run H a e d = (t : ℕ) → t + d ≤ H → Prefix (keep (of_flow run 0) (joined_by run a t)) (keep (of_flow run 0) (left_by run e (t + d)))
 
--- the watched bytes inside the row at the end of slot t: those that have joined server 1 by then, less those that have left the last server by then.
--- These are the first of those (`inside_are` of WithinLaws.antt), so the others are inside.
-abbrev pub inside_at : Tandem → {B : Type 0} → Run B → ℕ → ℕ
-inside_at row run t = length (keep (of_flow run 0) (joined_by run 1 t)) - length (keep (of_flow run 0) (left_by run (size row) t))
-
--- "how much of the watched flow can be inside the row at the end of any slot": at most x bytes, in every slot of the record
-abbrev pub Inside : Tandem → {B : Type 0} → Run B → ℕ → ℕ → Type 0
-Inside row run H x = (t : ℕ) → t ≤ H → inside_at row run t ≤ x
-
 -- "The bound is the least delay": what the search of the row of a sheet's numbers gives, in the sheet's mode and on its grid
 unfoldable pub bound_of : List ℕ → ℕ
 bound_of xs = (searched (tandem_of xs) (mode xs) (grid_of (server_count xs) (grid xs))).best.delay
-
--- and the backlog "for the point of the grid that the bound stands on"
-unfoldable pub backlog_of : List ℕ → ℕ
-backlog_of xs = (searched (tandem_of xs) (mode xs) (grid_of (server_count xs) (grid xs))).best.backlog

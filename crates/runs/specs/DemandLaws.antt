@@ -1,5 +1,5 @@
--- DEMAND 3: on an accepted row, in every run that keeps the premises, each byte of the watched flow is out of the last server within the bound, and at
--- the end of each slot no more of them are inside than the backlog. Both hold at every point of the grid, so they hold for the best.
+-- DEMAND 3: on an accepted row, in every run that keeps the premises, each byte of the watched flow is out of the last server within the bound. It
+-- holds at every point of the grid, so it holds for the best.
 -- Assumes nothing.
 use Rattle.std.specs.Prelude.{◌≡◌, refl, Bool, true, false, cond, eqb, ltb, replicate}
 use Rattle.std.proofs.Common.{sym, ◌∙◌, arith}
@@ -24,18 +24,17 @@ use Rattle.tree.specs.Stretch.{Stretch, span, curve}
 use Rattle.tree.specs.Fits.{Fits}
 use Rattle.tree.specs.Tree.{tree}
 use Rattle.tree.specs.Grid.{Answer, better, best_of, found_of, steps_of, points_of}
-use Rattle.tree.specs.Bound.{bound, backlog_bound, extra_of, answer_at, searched}
+use Rattle.tree.specs.Bound.{bound, extra_of, answer_at, searched}
 use Rattle.tandem.specs.SumLaws.{total_at}
-use Rattle.tree.specs.PlanLaws.{stage_count}
 use Rattle.tree.specs.StretchLaws.{curve_rates}
 use Rattle.tree.specs.NestedLaws.{tree_fits}
 use Rattle.runs.specs.Lines.{keep, by, Prefix}
 use Rattle.runs.specs.Run.{Run, Keeps, of_flow}
-use Rattle.runs.specs.Demand.{OnTime, Within, Inside, bound_of, backlog_of}
+use Rattle.runs.specs.Demand.{OnTime, Within, bound_of}
 use Rattle.runs.specs.Served.{past, come, gone, Good}
 use Rattle.runs.specs.LinesLaws.{prefix_keep, prefix_both, by_prefix, keep_length_mono}
 use Rattle.runs.specs.RunLaws.{bucketed_after}
-use Rattle.runs.specs.LeftoverLaws.{deadline, still_there}
+use Rattle.runs.specs.LeftoverLaws.{deadline}
 use Rattle.runs.specs.ServedLaws.{good}
 use Rattle.runs.specs.WithinLaws.{within_out}
 use Rattle.row.specs.OfSheetLaws.{passed_row}
@@ -82,16 +81,6 @@ module _ (row : Tandem) (sound : Sound row) {B : Type 0} (run : Run B) (H : ℕ)
   stretch_in_order t h =
       subst (λ (g : ℕ → List B). Prefix (keep (of_flow run 0) (by (run.join 1) t)) (keep (of_flow run 0) (by g (t + bound row extra p)))) past_all (front t h)
 
-  -- and what is inside it
-  pub stretch_inside : Inside row run H (backlog_bound row extra p)
-  unfolding backlog_bound come gone watched
-  stretch_inside t h =
-      let c = curve row extra p in
-      subst (λ (g : ℕ → List B). length (keep (of_flow run 0) (by (run.join 1) t)) - length (keep (of_flow run 0) (by g t)) ≤ backlog_bound row extra p) past_all
-      (still_there H c (flow row 0).burst (flow row 0).rate (λ a. length (come run watched 1 a)) (λ a. length (gone run watched 1 (span p) a))
-      (rw sound.enters at (keeps.buckets 0 sound.some)) (omega (arith, stage_count row extra p, full, sound.long))
-      (rates_weaken (flow row 0).rate (rates row watched) c.stages (watched_rate_lem row sound.some) room_for) claim.serves t h)
-
 -- at every point of the grid, and for any extras at all: byte for byte, in order
 pub on_time_in_order : (row : Tandem) → Accepted row → (extra : ℕ → ℕ) → {B : Type 0} (run : Run B) (H : ℕ) → Keeps row run H
     → Within run H 1 (size row) (bound row extra (tree row))
@@ -101,11 +90,6 @@ on_time_in_order row ok extra run H keeps = stretch_in_order row ok.sound run H 
 pub on_time : (row : Tandem) → Accepted row → (extra : ℕ → ℕ) → {B : Type 0} (run : Run B) (H : ℕ) → Keeps row run H
     → OnTime row run H (bound row extra (tree row))
 on_time row ok extra run H keeps = within_out run H 1 (size row) (bound row extra (tree row)) (on_time_in_order row ok extra run H keeps)
-
--- and what is inside the row
-pub inside_row : (row : Tandem) → Accepted row → (extra : ℕ → ℕ) → {B : Type 0} (run : Run B) (H : ℕ) → Keeps row run H
-    → Inside row run H (backlog_bound row extra (tree row))
-inside_row row ok extra run H keeps = stretch_inside row ok.sound run H keeps extra (tree row) (tree_fits row ok).0 (tree_fits row ok).1
 
 -- the best answer stands at some point
 
@@ -147,14 +131,6 @@ pub on_time_searched : (row : Tandem) → Accepted row → (mode g : ℕ) → {B
 on_time_searched row ok mode g run H keeps =
     within_out run H 1 (size row) (searched row mode g).best.delay (searched_in_order row ok mode g run H keeps)
 
-pub inside_searched : (row : Tandem) → Accepted row → (mode g : ℕ) → {B : Type 0} (run : Run B) (H : ℕ) → Keeps row run H
-    → Inside row run H (searched row mode g).best.backlog
-unfolding answer_at
-inside_searched row ok mode g run H keeps =
-    let x = searched_at row mode g in
-    let e : backlog_bound row (extra_of x.0) (tree row) ≡ (searched row mode g).best.backlog = ap (λ (a : Answer). a.backlog) (sym x.1) in
-    subst (λ (b : ℕ). Inside row run H b) e (inside_row row ok (extra_of x.0) run H keeps)
-
 -- DEMAND 3, from the bytes of a sheet: if they are read as the numbers xs and these pass the checks, then in every run on the row of xs that keeps the
 -- premises up to slot H, each byte of the watched flow that entered by the end of slot t has left the last server by the end of slot t + bound,
 -- wherever t + bound ≤ H
@@ -170,12 +146,3 @@ pub demand_three_in_order : (s xs : List ℕ) → sheet_of s ≡ these xs → ch
 unfolding bound_of
 demand_three_in_order s xs read passed run H keeps =
     searched_in_order (tandem_of xs) (passed_row xs (read_valid s xs read) passed).accepts (mode xs) (grid_of (server_count xs) (grid xs)) run H keeps
-
--- WISH 1, from the bytes of a sheet: in every such run, at the end of each slot of the record the watched bytes that have joined server 1 and not left
--- the last server number at most the backlog
-pub demand_inside : (s xs : List ℕ) → sheet_of s ≡ these xs → check_of xs ≡ Passed
-    → {B : Type 0} (run : Run B) (H : ℕ) → Keeps (tandem_of xs) run H → Inside (tandem_of xs) run H (backlog_of xs)
-unfolding backlog_of
-demand_inside s xs read passed run H keeps =
-    let ok = (passed_row xs (read_valid s xs read) passed).accepts in
-    inside_searched (tandem_of xs) ok (mode xs) (grid_of (server_count xs) (grid xs)) run H keeps

@@ -3,7 +3,7 @@
 -- watched byte leaves in the last slot that its bound allows.
 -- Assumes nothing.
 use Rattle.std.specs.Prelude.{ℕ, zero, suc, ◌≡◌, refl, cond, ltb}
-use mathlib.Core.List.{List, [], ◌∷◌, map, Memᴰ}
+use mathlib.Core.List.{List, [], ◌∷◌, Memᴰ}
 use Rattle.std.proofs.Common.{arith}
 use Rattle.numbers.specs.Seven.{number_at}
 use Rattle.fields.specs.Rule.{rule_at, seen_after, field_at}
@@ -25,7 +25,7 @@ use Rattle.tree.specs.Grid.{steps_of, points_of, better, found_of}
 use Rattle.tree.specs.Bound.{bound, waits, answer_at, searched}
 use Rattle.runs.specs.Lines.{keep, by, Prefix}
 use Rattle.runs.specs.Run.{Run, of_flow, Keeps, joined_by, left_by}
-use Rattle.runs.specs.Demand.{OnTime, inside_at, bound_of}
+use Rattle.runs.specs.Demand.{OnTime, bound_of}
 use Rattle.runs.specs.RunTests.{each, each_of, begins, same, has, on_path, in_order, relayed, keeps_buckets, guarantees, keeps_all}
 use Rattle.runs.specs.RunTestLaws.{keeps_all_lem, has_is, has_not}
 use Rattle.runs.specs.DemandLaws.{demand_three, demand_three_in_order}
@@ -112,9 +112,3 @@ out_in_order = (rw bound_is at (demand_three_in_order sheet sheet sheet_read she
 pub bound_reached : OnTime (tandem_of sheet) run 5 3 → ⊥
 unfolding tandem_of listed has by
 bound_reached h = has_not 4 (left_by run 2 4) refl (h 1 (omega arith) 4 refl (has_is 4 (joined_by run 1 1) refl))
-
--- the watched bytes inside the row at the end of slots 0 to 5: two and then three have joined server 1; all three have left it in slot 3, where they
--- stand at server 2; one leaves that in slot 4, and two in slot 5. The bytes of the cross flows do not count.
-pub inside_each : map (inside_at (tandem_of sheet) run) (0 ∷ 1 ∷ 2 ∷ 3 ∷ 4 ∷ 5 ∷ []) ≡ 0 ∷ 2 ∷ 3 ∷ 3 ∷ 2 ∷ 0 ∷ []
-unfolding tandem_of listed by keep
-inside_each = refl

@@ -1,16 +1,13 @@
--- What is left after a group in a line that keeps its order, two stretches in series, and the delay and the backlog of a bucket, all of counts by slot.
+-- What is left after a group in a line that keeps its order, two stretches in series, and the delay of a bucket, all of counts by slot.
 -- Assumes nothing.
-use Rattle.std.specs.Prelude.{◌≡◌, refl, ◌⊎◌, ℕ, zero, suc, ◌+◌, ◌*◌, ◌-◌, ◌≤◌, ◌<◌, length}
+use Rattle.std.specs.Prelude.{◌≡◌, refl, ◌⊎◌, ℕ, zero, suc, ◌+◌, ◌*◌, ◌-◌, ◌≤◌, ◌<◌}
 use Rattle.std.proofs.Common.{inl, inr, mul-le-mul_left}
 use native.Mathlib.Omega.{arith}
-use Rattle.curves.specs.Slots.{bucket}
-use Rattle.curves.specs.Curve.{Shape, value_at, Under, Rates, neutral, joined, least_wait, remainder, delay, backlog}
+use Rattle.curves.specs.Curve.{Shape, Under, Rates, neutral, joined, least_wait, remainder, delay}
 use Rattle.ground.specs.OrderLaws.{le_or_lt}
-use Rattle.curves.specs.CurveLaws.{under_of_value}
 use Rattle.curves.specs.JoinLaws.{joined_split}
 use Rattle.curves.specs.RemainderLaws.{remainder_under}
 use Rattle.curves.specs.DelayLaws.{delay_under}
-use Rattle.curves.specs.BacklogLaws.{backlog_most}
 use Rattle.runs.specs.Served.{Serves}
 
 -- the greatest slot by which no more than x had come
@@ -116,11 +113,3 @@ deadline H c σ ρ A D mono bucket p q serves t ht =
         let e : t + delay c σ ρ - u ≡ delay c σ ρ + (t - u) = omega arith in
         let k = f (σ + ρ * (t - u)) (rw e (delay_under c σ ρ (t - u) p q (omega arith))) in
         omega (arith, bucket u t h (omega arith))
-
--- and all but the backlog has left by t itself: since the slot from which the curve counts, the bucket has sent no more than the curve and that
-pub still_there : (H : ℕ) (c : Shape) (σ ρ : ℕ) (A D : ℕ → ℕ) → ((a b : ℕ) → a ≤ b → b ≤ H → A b ≤ A a + bucket σ ρ (b - a))
-    → 0 < length c.stages → Rates ρ c.stages → Serves H c A D → (t : ℕ) → t ≤ H → A t - D t ≤ backlog c σ ρ
-still_there H c σ ρ A D kept some q serves t ht =
-    let g = serves t ht in
-    let v = value_at c (t - g.0) in
-    omega (arith, g.2 v (under_of_value c (t - g.0) v (omega arith)), backlog_most c σ ρ some q (t - g.0), kept g.0 t g.1 ht)

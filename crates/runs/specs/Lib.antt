@@ -15,6 +15,5 @@ pub mod RunTestLaws
 pub mod Witness
 pub mod Fresh
 pub mod Freedom
-pub mod Filled
 pub mod SilentLaws
 pub mod MistakeLaws

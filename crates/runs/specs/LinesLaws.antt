@@ -61,6 +61,7 @@ module _ {B : Type 0} where
 
   pub mem_keep : (p : B → Bool) (b : B) (l : List B) → p b ≡ true → Memᴰ b l → Memᴰ b (keep p l)
   unfolding keep
+  mem_keep p b [] h m = elim m [ ]
   mem_keep p b (x ∷ xs) h (Memᴰ.head e) = rw (ap p (sym e) ∙ h) (Memᴰ.head e)
   mem_keep p b (x ∷ xs) h (Memᴰ.tail m) = go (p x) (mem_keep p b xs h m)
     where

@@ -62,6 +62,7 @@ has_is x (y ∷ l) h = go (or_cases (eqb x y) (has x l) h) (has_is x l)
 
 is_has : (x : ℕ) (l : List ℕ) → Memᴰ x l → has x l ≡ true
 unfolding has
+is_has x [] m = elim m [ ]
 is_has x (y ∷ l) (Memᴰ.head e) = or_left (eqb x y) (has x l) (eq-eqb x y e)
 is_has x (y ∷ l) (Memᴰ.tail m) = or_right (eqb x y) (has x l) (is_has x l m)
 

@@ -1,8 +1,8 @@
 -- Laws of a watched flow's delay between two servers: each byte is out, the bytes are out in the order in which they joined, and delays of
--- consecutive stretches add up; and which of its bytes are inside the row.
+-- consecutive stretches add up.
 -- Assumes nothing.
-use Rattle.std.specs.Prelude.{◌≡◌, Bool, true, ℕ, zero, suc, ◌+◌, ◌-◌, ◌≤◌, ◌<◌, length, get_or}
-use Rattle.std.proofs.Common.{sym, ap, ◌∙◌, arith, length-append, eqb-true, eq-eqb}
+use Rattle.std.specs.Prelude.{◌≡◌, Bool, true, ℕ, zero, suc, ◌+◌, ◌≤◌, ◌<◌, length, get_or}
+use Rattle.std.proofs.Common.{sym, ap, ◌∙◌, arith, eqb-true, eq-eqb}
 use mathlib.Core.List.{Memᴰ}
 use Rattle.std.proofs.Math.ListN.{get_or-append}
 use Rattle.tandem.specs.Tandem.{Tandem, size, crosses}
@@ -10,7 +10,7 @@ use Rattle.tandem.specs.Sound.{Sound}
 use Rattle.tandem.specs.TandemLaws.{is_crosses}
 use Rattle.runs.specs.Lines.{keep, Prefix}
 use Rattle.runs.specs.Run.{Run, Keeps, joined_by, left_by, of_flow}
-use Rattle.runs.specs.Demand.{Within, inside_at}
+use Rattle.runs.specs.Demand.{Within}
 use Rattle.runs.specs.LinesLaws.{keep_keep, prefix_keep, prefix_trans, prefix_mem, by_same, mem_keep, mem_of_keep}
 
 -- each watched byte that joined server a by slot t has left server e by slot t + d
@@ -69,12 +69,3 @@ module _ (row : Tandem) {B : Type 0} (run : Run B) (H : ℕ) (keeps : Keeps row 
     never_early (suc j) hn t h =
         prefix_trans (prefix_keep (of_flow run 0) (keeps.order (suc (suc j)) t (omega arith) hn h))
         (rw (← (watched_handed (suc j) (omega arith) hn t h)) (never_early j (omega arith) t h))
-
-    -- the watched bytes that have left the last server are, in order, the first of those that have joined server 1, and the others are as many as are
-    -- counted inside
-    pub inside_are : (t : ℕ) → t ≤ H
-        → (p : Prefix (keep (of_flow run 0) (left_by run (size row) t)) (keep (of_flow run 0) (joined_by run 1 t))) × (length p.rest ≡ inside_at row run t)
-    inside_are t h =
-        let e : suc (size row - 1) ≡ size row = omega (arith, sound.long) in
-        let p = rw e at (never_early (size row - 1) (omega (arith, sound.long)) t h) in
-        (p, omega (arith, length-append (keep (of_flow run 0) (left_by run (size row) t)) p.rest, ap length p.whole))

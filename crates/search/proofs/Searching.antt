@@ -128,30 +128,25 @@ module _ (row : Row) (ok : Searchable row) where
       (point_low (start_of row) g n r (omega (arith, ok.coarse)))).fine
 
   -- what is found at a point
-  abbrev found_with : ℕ → Point → Found
-  found_with start p = record { start = start; bound = p.delay; backlog = p.backlog; waits = p.waits }
-
-  abbrev Tells : Found → ℕ → Point → Type 0
-  Tells r start p = (r.start ≡ start) × (r.bound ≡ p.delay) × (r.backlog ≡ p.backlog) × (r.waits ≡ p.waits)
-
   found_by : (r : Found) (p : Point) (es : List ℕ) → p ≡ point_of (answer_at row es) → (searched row).best ≡ answer_at row es
-      → Tells r (start_of row) p → r ≡ found_in (searched row).start (searched row).best
+      → (r.start ≡ start_of row) × (r.bound ≡ p.delay) × (r.waits ≡ p.waits) → r ≡ found_in (searched row).start (searched row).best
   unfolding found_in found_of point_of
   found_by r p es e b h =
-      let a : r ≡ found_with (start_of row) p = λ i. record { start = h.0 i; bound = h.1 i; backlog = h.2 i; waits = h.3 i } in
-      a ∙ ap (found_with (start_of row)) e ∙ ap (λ (x : Answer). found_with (start_of row) (point_of x)) (sym b)
+      let a : ◌≡◌ {A = Found} r (record { start = start_of row; bound = p.delay; waits = p.waits }) = λ i. record { start = h.0 i; bound = h.1 i; waits = h.2 i } in
+      a ∙ ap (λ (x : Point). record { start = start_of row; bound = x.delay; waits = x.waits }) e
+      ∙ ap (λ (x : Answer). record { start = start_of row; bound = x.delay; waits = padded 32 0 x.waits }) (sym b)
 
   -- in mode 1, and where the first point is the best
   pub found_none : (r : Found) (p : Point) → p ≡ point_of (answer_at row (extras_of row (replicate 32 0)))
       → (row.mode ≡ 0 → ⊥) ⊎ ((searched row).best ≡ answer_at row (point_at (step_at (start_of row) g) g n 0))
-      → Tells r p.delay p → r ≡ found_in (searched row).start (searched row).best
+      → (r.start ≡ p.delay) × (r.bound ≡ p.delay) × (r.waits ≡ p.waits) → r ≡ found_in (searched row).start (searched row).best
   found_none r p e b h =
       found_by r p (replicate n 0) (e ∙ ap (λ (es : List ℕ). point_of (answer_at row es)) none_is)
-      (⊎_elim (λ m. quick_is (answer_at row) n row.mode g (positive row.mode m)) (λ x. x ∙ ap (answer_at row) (point_zero (start_of row) g n)) b) (h.0 ∙ first_delay p e, h.1, h.2, h.3)
+      (⊎_elim (λ m. quick_is (answer_at row) n row.mode g (positive row.mode m)) (λ x. x ∙ ap (answer_at row) (point_zero (start_of row) g n)) b) (h.0 ∙ first_delay p e, h.1, h.2)
 
   pub found_number : (r : Found) (p : Point) (k : ℕ) → p ≡ point_of (answer_at row (extras_of row (padded 32 0 (point_at (step_at (start_of row) g) g n k))))
       → (searched row).best ≡ answer_at row (point_at (step_at (start_of row) g) g n k)
-      → Tells r (start_of row) p → r ≡ found_in (searched row).start (searched row).best
+      → (r.start ≡ start_of row) × (r.bound ≡ p.delay) × (r.waits ≡ p.waits) → r ≡ found_in (searched row).start (searched row).best
   found_number r p k e b h =
       found_by r p (point_at (step_at (start_of row) g) g n k) (e ∙ ap (λ (es : List ℕ). point_of (answer_at row es)) (extras_are k)) b h
 

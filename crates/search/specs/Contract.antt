@@ -7,5 +7,5 @@ use Rattle.search.specs.Point.{searched}
 use Rattle.search.specs.Searchable.{found_in}
 
 pub record Search (row : Row) (r : Found) : Type 0 where
-  -- the start, and the delay, the backlog and the waits at the first point of the grid with the least delay
+  -- the start, and the delay and the waits at the first point of the grid with the least delay
   pub is : r ≡ found_in (searched row).start (searched row).best

@@ -14,7 +14,7 @@ use Rattle.search.specs.declared.Found.{Found}
 
 -- what a search gives, as the code holds it: behind the groups' waits stand zeros
 unfoldable pub found_in : ℕ → Answer → Found
-found_in start best = record { start = start; bound = best.delay; backlog = best.backlog; waits = padded 32 0 best.waits }
+found_in start best = record { start = start; bound = best.delay; waits = padded 32 0 best.waits }
 
 -- "With every e = 0 the delay is called start."
 abbrev pub start_of : Row → ℕ

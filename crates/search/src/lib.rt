@@ -22,12 +22,11 @@ use grid::Steps;
 use point::Point;
 use row::Row;
 
-// What the search gives: the delay with no extras, the least delay, and the backlog and each group's wait at the first point that has it.
+// What the search gives: the delay with no extras, the least delay, and each group's wait at the first point that has it.
 #[derive(Drop)]
 pub struct Found {
     pub start: u64,
     pub bound: u64,
-    pub backlog: u64,
     pub waits: [u64; 32],
 }
 
@@ -129,15 +128,14 @@ fn best_number(row: Row, steps: Steps) -> u64
     key % 65536
 }
 
-// What is found: the start, and the delay, the backlog and the waits at a point.
+// What is found: the start, and the delay and the waits at a point.
 fn found_at(start: u64, p: Point) -> Found
-    ensures { (result.start ≡ start) × (result.bound ≡ p.delay) × (result.backlog ≡ p.backlog) × (result.waits ≡ p.waits) }
+    ensures { (result.start ≡ start) × (result.bound ≡ p.delay) × (result.waits ≡ p.waits) }
 {
     let waits = p.waits;
     Found {
         start: start,
         bound: p.delay,
-        backlog: p.backlog,
         waits: waits,
     }
 }

@@ -1,8 +1,7 @@
--- DEMAND 2 of a row: where on the grid the answer of a search stands, and what its bound and its backlog are there (document 01, "Groups, tree and
--- grid"; document 02, Wish 1).
+-- DEMAND 2 of a row: where on the grid the answer of a search stands, and what its bound bounds (document 01, "Groups, tree and grid").
 -- Assumes nothing.
 use Rattle.std.specs.Prelude.{ℕ, ◌≡◌, List, length, replicate}
-use Rattle.curves.specs.Slots.{Covers, Least, excess, Greatest}
+use Rattle.curves.specs.Slots.{Covers, Least}
 use Rattle.tandem.specs.Tandem.{Tandem, flow}
 use Rattle.row.specs.Groups.{groups}
 use Rattle.tree.specs.Grid.{steps_of, points_of, Answer}
@@ -19,7 +18,7 @@ no_extras row = replicate (length (groups row)) 0
 pub record Chosen (row : Tandem) (mode g start : ℕ) (best : Answer) : Type 0 where
   -- each group's extra
   pub point : List ℕ
-  -- the delay, the backlog and the waits are those of that point
+  -- the delay and the waits are those of that point
   pub there : best ≡ answer_at row point
   -- "With every e = 0 the delay is called start."
   pub begins : start ≡ (answer_at row (no_extras row)).delay
@@ -30,5 +29,3 @@ pub record Chosen (row : Tandem) (mode g start : ℕ) (best : Answer) : Type 0 w
   -- "The delay of a bucket (σ, ρ) over a curve is the least d such that for every s ≥ 0 the bucket at s is at most the curve at s + d": over what the
   -- nesting tree guarantees the watched flow at that point, slot by slot
   pub least : Least (Covers (meaning row (extra_of point) (tree row)) (flow row 0).burst (flow row 0).rate) best.delay
-  -- "the greatest, over u ≥ 0, of the bucket at u less the root curve at u, never below 0, for the point of the grid that the bound stands on"
-  pub greatest : Greatest (excess (meaning row (extra_of point) (tree row)) (flow row 0).burst (flow row 0).rate) best.backlog

@@ -1,10 +1,10 @@
 -- The search of an accepted row chooses its answer as demand 2 says; and what demand 2 says leaves one start, one answer and one point, whose bound
--- and backlog are what the functions of slots make them.
+-- is what the functions of slots make it.
 -- Assumes nothing.
 use Rattle.std.specs.Prelude.{ℕ, zero, suc, ◌≤◌, ◌≡◌, refl, List, length}
 use Rattle.std.proofs.Common.{sym, ap, ◌∙◌, subst, arith}
-use Rattle.curves.specs.Slots.{Covers, Least, excess, Greatest}
-use Rattle.curves.specs.SlotsLaws.{least_unique, greatest_unique}
+use Rattle.curves.specs.Slots.{Covers, Least}
+use Rattle.curves.specs.SlotsLaws.{least_unique}
 use Rattle.tandem.specs.Tandem.{Tandem, flow}
 use Rattle.row.specs.Groups.{groups}
 use Rattle.row.specs.Accepted.{Accepted}
@@ -14,7 +14,7 @@ use Rattle.tree.specs.Tree.{tree}
 use Rattle.tree.specs.Bound.{extra_of, answer_at, searched}
 use Rattle.tree.specs.Meaning.{meaning}
 use Rattle.tree.specs.Chosen.{Chosen, no_extras}
-use Rattle.tree.specs.MeaningLaws.{bound_is_least, backlog_is_greatest}
+use Rattle.tree.specs.MeaningLaws.{bound_is_least}
 use Rattle.tree.specs.GridLaws.{first_point, first_unique, quick_is}
 use Rattle.tree.specs.SearchLaws.{searched_first}
 
@@ -25,14 +25,6 @@ unfolding answer_at
 least_there row ok point best e =
     subst (λ (d : ℕ). Least (Covers (meaning row (extra_of point) (tree row)) (flow row 0).burst (flow row 0).rate) d) (sym (ap (λ (a : Answer). a.delay) e))
     (bound_is_least row ok (extra_of point))
-
--- and the backlog that is the greatest excess of it
-greatest_there : (row : Tandem) → Accepted row → (point : List ℕ) (best : Answer) → best ≡ answer_at row point
-    → Greatest (excess (meaning row (extra_of point) (tree row)) (flow row 0).burst (flow row 0).rate) best.backlog
-unfolding answer_at
-greatest_there row ok point best e =
-    subst (λ (b : ℕ). Greatest (excess (meaning row (extra_of point) (tree row)) (flow row 0).burst (flow row 0).rate) b)
-    (sym (ap (λ (a : Answer). a.backlog) e)) (backlog_is_greatest row ok (extra_of point))
 
 pub searched_chosen : (row : Tandem) → Accepted row → (mode g : ℕ) → mode ≤ 1 → 1 ≤ g
     → Chosen row mode g (searched row mode g).start (searched row mode g).best
@@ -46,7 +38,6 @@ searched_chosen row ok zero g m h =
       searches = λ z. (f, refl);
       quick = λ z. absurd (omega arith);
       least = least_there row ok f.point _ f.there;
-      greatest = greatest_there row ok f.point _ f.there;
     }
 searched_chosen row ok (suc mode) g m h =
     let q = quick_is (answer_at row) (length (groups row)) (suc mode) g (omega arith) in
@@ -57,10 +48,9 @@ searched_chosen row ok (suc mode) g m h =
       searches = λ z. absurd (omega arith);
       quick = λ z. refl;
       least = least_there row ok (no_extras row) _ q;
-      greatest = greatest_there row ok (no_extras row) _ q;
     }
 
--- demand 2 leaves one start, one bound, one backlog and one list of waits
+-- demand 2 leaves one start, one bound and one list of waits
 pub chosen_unique : (row : Tandem) (mode g start start' : ℕ) (best best' : Answer) → mode ≤ 1
     → Chosen row mode g start best → Chosen row mode g start' best' → (start ≡ start') × (best ≡ best')
 chosen_unique row mode g start start' best best' m c d = (same, by mode refl m)
@@ -96,9 +86,3 @@ pub chosen_least : (row : Tandem) (mode g start : ℕ) (best : Answer) → (c : 
     → (d : ℕ) → Least (Covers (meaning row (extra_of c.point) (tree row)) (flow row 0).burst (flow row 0).rate) d → best.delay ≡ d
 chosen_least row mode g start best c d l =
     least_unique (Covers (meaning row (extra_of c.point) (tree row)) (flow row 0).burst (flow row 0).rate) best.delay d c.least l
-
--- and the backlog is the greatest number of bytes by which that bucket is above it at any slot
-pub chosen_greatest : (row : Tandem) (mode g start : ℕ) (best : Answer) → (c : Chosen row mode g start best)
-    → (b : ℕ) → Greatest (excess (meaning row (extra_of c.point) (tree row)) (flow row 0).burst (flow row 0).rate) b → best.backlog ≡ b
-chosen_greatest row mode g start best c b l =
-    greatest_unique (excess (meaning row (extra_of c.point) (tree row)) (flow row 0).burst (flow row 0).rate) best.backlog b c.greatest l

@@ -20,10 +20,9 @@ points_from steps fixed (suc n) = flat (λ (e : ℕ). points_from steps (fixed +
 unfoldable pub points_of : List ℕ → ℕ → List (List ℕ)
 points_of steps n = points_from steps [] n
 
--- what stands at a point: the delay, the backlog, and each group's wait
+-- what stands at a point: the delay, and each group's wait
 pub record Answer : Type 0 where
   pub delay : ℕ
-  pub backlog : ℕ
   pub waits : List ℕ
 
 -- "The bound is the least delay; on a tie the first point stands."

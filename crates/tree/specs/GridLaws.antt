@@ -259,7 +259,7 @@ flat_more steps h k r (e ∷ l) =
 
 flat_single : {A B : Type 0} (f : A → B) (l : List A) → flat (λ (e : A). f e ∷ []) l ≡ map f l ++ []
 flat_single f [] = refl
-flat_single f (x ∷ l) = rw (flat_single f l)
+flat_single {B} f (x ∷ l) = ap (λ (m : List B). f x ∷ m) (flat_single f l)
 
 from_last : (steps : List ℕ) (n : ℕ) (fixed : List ℕ) → points_from steps fixed (suc n) ≡ more_by steps (points_from steps fixed n)
 from_last steps zero fixed = flat_single (λ (e : ℕ). fixed ++ (e ∷ [])) steps

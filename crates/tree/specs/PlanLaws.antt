@@ -16,7 +16,7 @@ use Rattle.row.specs.Groups.{path, groups, grouped, reads}
 use Rattle.tree.specs.Plan.{Top, alone, over, top_of, piece_on, along, node_curve, node_of, head_of, tail_of, plan}
 use Rattle.tree.specs.Stretch.{Stretch, none, then_server, then_group, span, group_wait, after_group, curve}
 use Rattle.tree.specs.Tree.{Piece, single, whole, pick, one_more, stretch_from, inside, top, tree}
-use Rattle.tree.specs.Bound.{bound, backlog_bound, waits, extra_of, answer_at}
+use Rattle.tree.specs.Bound.{bound, waits, extra_of, answer_at}
 use Rattle.tree.specs.Planned.{waits_of, answer_of, nodes_of, tree_nodes}
 
 -- the list es has the extras from group k on
@@ -106,10 +106,9 @@ plan_is_tree row es =
     rw (plan_same row (extra_of es) (groups row) 0 es (extras_all es))
     (ap (λ (c : Shape). node_of c (flow row 0) 0 ∷ nodes_of row (extra_of es) 0 (groups row)) (node_curve_same row (extra_of es) (flow row 0) (groups row) 0))
 
--- and so they answer what the tree answers: the root's curve gives the delay and the backlog, and the nodes behind it have the groups' waits
+-- and so they answer what the tree answers: the root's curve gives the delay, and the nodes behind it have the groups' waits
 pub plan_answers : (row : Tandem) (es : List ℕ) → answer_of row.servers (reads row) es ≡ answer_at row es
-unfolding answer_of reads tree_nodes answer_at bound backlog_bound node_of
+unfolding answer_of reads tree_nodes answer_at bound node_of
 plan_answers row es =
-    let d = bound row (extra_of es) (tree row) in
-    let b = backlog_bound row (extra_of es) (tree row) in
-    rw (plan_is_tree row es) (ap (λ (l : List ℕ). record { delay = d; backlog = b; waits = l }) (waits_same row (extra_of es) (groups row) 0))
+    rw (plan_is_tree row es)
+    (ap (λ (l : List ℕ). record { delay = bound row (extra_of es) (tree row); waits = l }) (waits_same row (extra_of es) (groups row) 0))

@@ -1,7 +1,7 @@
 -- What the nodes that a program works out (Plan.antt) answer at a point, and the nodes that the tree (Tree.antt) has there.
 -- Assumes nothing.
 use Rattle.std.specs.Prelude.{ℕ, suc, List, [], ◌∷◌, map, get_or}
-use Rattle.curves.specs.Curve.{delay, backlog}
+use Rattle.curves.specs.Curve.{delay}
 use Rattle.tandem.specs.declared.Server.{Server}
 use Rattle.tandem.specs.declared.Flow.{Flow}
 use Rattle.tandem.specs.Tandem.{Tandem, Path, flow, no_flow}
@@ -16,11 +16,10 @@ use Rattle.tree.specs.Bound.{extra_of}
 abbrev pub waits_of : List Node → List ℕ
 waits_of ns = map (λ (n : Node). n.wait) ns
 
--- of nodes whose first is the root: the delay and the backlog of the watched flow's bucket over the root's curve, and the waits of the others
+-- of nodes whose first is the root: the delay of the watched flow's bucket over the root's curve, and the waits of the others
 abbrev pub answer_in : Flow → List Node → Answer
-answer_in w [] = record { delay = 0; backlog = 0; waits = [] }
-answer_in w (n ∷ ns) =
-    record { delay = delay n.curve w.burst w.rate; backlog = backlog n.curve w.burst w.rate; waits = waits_of ns }
+answer_in w [] = record { delay = 0; waits = [] }
+answer_in w (n ∷ ns) = record { delay = delay n.curve w.burst w.rate; waits = waits_of ns }
 
 -- the answer at the point es, of the watched flow and the groups behind it: the extras of the groups in order; the watched flow has none
 unfoldable pub answer_of : List Server → List Flow → List ℕ → Answer

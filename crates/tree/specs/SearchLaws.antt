@@ -1,19 +1,18 @@
 -- The search of an accepted row within the limits: every point of its grid is in range for the code, and its numbers are small.
 -- Assumes nothing.
 use Rattle.std.specs.Prelude.{◌≡◌, refl, ◌⊎◌, List, [], ◌∷◌, ℕ, zero, suc, ◌≤◌, ◌<◌, ◌^◌}
-use Rattle.std.proofs.Math.Path.{ap}
-use Rattle.std.proofs.Common.{inl, inr, arith}
+use Rattle.std.proofs.Common.{ap, inl, inr, arith}
 use Rattle.std.proofs.Math.ListN.{length, get_or}
 use Rattle.ground.specs.OrderLaws.{le_or_lt}
 use Rattle.tandem.specs.Tandem.{Tandem, Path}
 use Rattle.row.specs.Groups.{groups}
 use Rattle.tandem.specs.Sound.{Limits}
 use Rattle.row.specs.Accepted.{Accepted}
-use Rattle.tree.specs.Grid.{steps_of, points_of, Answer, found_of}
+use Rattle.tree.specs.Grid.{steps_of, points_of, found_of}
 use Rattle.tree.specs.Bound.{waits, extra_of, answer_at, searched}
 use Rattle.ground.specs.Each.{Each}
 use Rattle.tree.specs.Searched.{First}
-use Rattle.tree.specs.SizeLaws.{start_small, backlog_small}
+use Rattle.tree.specs.SizeLaws.{start_small}
 use Rattle.tree.specs.PruneLaws.{wait_le_delay}
 use Rattle.tree.specs.GridLaws.{search_first, found_at, found_le_start}
 
@@ -70,10 +69,3 @@ module _ (row : Tandem) (ok : Accepted row) where
     pub searched_start_small : (mode g : ℕ) → (searched row mode g).start < 2 ^ 30
     unfolding searched found_of
     searched_start_small mode g = start_small row ok limits (length (groups row))
-
-    pub searched_backlog_small : (mode g : ℕ) → 2 ≤ g → (searched row mode g).best.backlog < 2 ^ 50
-    unfolding searched
-    searched_backlog_small mode g h =
-        let f = found_at (answer_at row) (length (groups row)) mode g h in
-        let d = ap (λ (a : Answer). a.delay) f.2 in
-        rw f.2 (backlog_small row ok limits f.0 (omega (arith, d, found_le_start (answer_at row) (length (groups row)) mode g, searched_start_small mode g)))

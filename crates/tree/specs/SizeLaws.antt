@@ -1,4 +1,4 @@
--- How large the numbers of an analysis can get, on rows within the limits: every node's curve, wait, delay and backlog is in range for the code.
+-- How large the numbers of an analysis can get, on rows within the limits: every node's curve, wait and delay is in range for the code.
 -- Assumes nothing.
 use Rattle.std.specs.Prelude.{◌≡◌, Bool, ◌||◌, ◌&&◌, ◌⊎◌, leb, eqb, get_or, replicate}
 use Rattle.std.proofs.Math.Path.{refl}
@@ -8,7 +8,6 @@ use Rattle.std.proofs.lemmas.Bool.{false≢true}
 use mathlib.Core.List.{List, [], ◌∷◌, map}
 use Prim.Native.Nat.{ℕ, zero, suc, ◌+◌, ◌*◌, ◌≤◌, ◌<◌, ◌^◌}
 use native.Mathlib.Omega.{arith}
-use Rattle.std.proofs.Math.Nat.{mul-le-mul}
 use Rattle.std.proofs.Math.Dec.{ltb}
 use Rattle.std.proofs.Math.ListN.{length}
 use borrow.Author.Tests.{le-leb, lt-ltb, leb-true, ltb-true}
@@ -19,9 +18,6 @@ use Rattle.curves.specs.Curve.{least_wait, delay, Rates}
 use Rattle.curves.specs.Held.{Live}
 use Rattle.curves.specs.StageLaws.{rates_weaken}
 use Rattle.curves.specs.RemainderLaws.{remainder_offset, remainder_length}
-use Rattle.curves.specs.SlotsLaws.{bucket_after}
-use Rattle.curves.specs.DelayLaws.{delay_after_offset}
-use Rattle.curves.specs.BacklogLaws.{backlog_le}
 use Rattle.tandem.specs.declared.Flow.{Flow}
 use Rattle.tandem.specs.Sums.{weigh, total}
 use Rattle.tandem.specs.Tandem.{Tandem, Path, size, flow, crosses, on, watched, bursts, rates}
@@ -31,7 +27,7 @@ use Rattle.row.specs.Accepted.{Accepted}
 use Rattle.tree.specs.Plan.{node_of, plan}
 use Rattle.tree.specs.Stretch.{Stretch, none, then_server, then_group, span, curve}
 use Rattle.tree.specs.Tree.{inside, top, tree}
-use Rattle.tree.specs.Bound.{bound, backlog_bound, extra_of, answer_at}
+use Rattle.tree.specs.Bound.{bound, extra_of, answer_at}
 use Rattle.tree.specs.Planned.{nodes_of, tree_nodes}
 use Rattle.tree.specs.Fits.{Fits}
 use Rattle.tree.specs.Amounts.{weights, count}
@@ -332,21 +328,4 @@ module _ (row : Tandem) (ok : Accepted row) (limits : Limits row) where
         total_at (length row.flows) 0 (λ f. (flow row f).burst) ok.sound.some,
         limits.small_bursts,
         watched_rate_small,
-      )
-
-  -- and where it is below 2^30, the backlog is below 2^50: no more than the watched flow may send up to the delay and in one slot more
-  pub backlog_small : (es : List ℕ) → (answer_at row es).delay < 2 ^ 30 → (answer_at row es).backlog < 2 ^ 50
-  unfolding answer_at bound backlog_bound
-  backlog_small es h =
-      let c = curve row (extra_of es) (tree row) in
-      let σ = (flow row 0).burst in
-      let ρ = (flow row 0).rate in
-      let n : c.offset + 1 ≤ 2 ^ 30 = omega (arith, delay_after_offset c σ ρ) in
-      omega (
-        arith,
-        backlog_le c σ ρ,
-        bucket_after σ ρ (c.offset + 1) (omega arith),
-        mul-le-mul watched_rate_small n,
-        total_at (length row.flows) 0 (λ f. (flow row f).burst) ok.sound.some,
-        limits.small_bursts,
       )

@@ -17,10 +17,10 @@ decreases-loop page₀ from found at₀ i₀ page at i = found.count - i
 
 -- the lists of the record have 32 entries
 groups-full : (s : tie.Start invariant-loop decreases-loop) → length s.args.t1.groups ≡ 32
-groups-full s = simp length-map at s.well-formed.0.1.1.1.1.1.1.1.1.0.1.0.1
+groups-full s = simp length-map at s.well-formed.0.1.1.1.1.1.1.1.0.1.0.1
 
 waits-full : (s : tie.Start invariant-loop decreases-loop) → length s.args.t1.waits ≡ 32
-waits-full s = simp length-map at s.well-formed.0.1.1.1.1.1.1.1.1.1.0.1.0.1
+waits-full s = simp length-map at s.well-formed.0.1.1.1.1.1.1.1.1.0.1.0.1
 
 loop-holds : tie.Need-loop-init invariant-loop decreases-loop
 loop-holds c = begin_filling _ _ _ _ _

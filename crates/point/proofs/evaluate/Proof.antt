@@ -8,11 +8,9 @@ use native.Mathlib.Omega.{arith}
 use lib.ListN.{length, get_or, set, length-set, length-map}
 use lib.Seq.{length-take-le, get_or-take}
 use Rattle.tandem.specs.Tandem.{no_flow, no_server}
-use Rattle.curves.specs.declared.Stage.{Stage}
-use Rattle.curves.specs.declared.Curve.{Curve}
-use Rattle.curves.specs.Curve.{Shape, neutral, least_wait}
+use Rattle.curves.specs.Curve.{Shape, neutral, least_wait, delay}
 use Rattle.curves.specs.Held.{held, Holds}
-use Rattle.curves.specs.HeldLaws.{bucket_small, holds_all, holds_in_range, holds_leaving, holds_joined, holds_remainder, holds_wait, holds_server, holds_long}
+use Rattle.curves.specs.HeldLaws.{holds_in_range, holds_leaving, holds_joined, holds_remainder, holds_wait, holds_delay, holds_server, holds_long}
 use Rattle.tandem.specs.declared.Server.{Server}
 use Rattle.tandem.specs.declared.Flow.{Flow}
 use Rattle.row.specs.declared.Row.{Row}
@@ -20,7 +18,7 @@ use Rattle.tree.specs.Plan.{Top, alone, node_of}
 use Rattle.tree.specs.Fine.{Fine}
 use Rattle.tree.specs.Ordered.{Placed}
 use Rattle.tree.specs.NodeLaws.{curve_at, node_at, extra_at, fine_at}
-use Rattle.point.specs.Point.{servers_of, flows_of, extras_of, root_point}
+use Rattle.point.specs.Point.{servers_of, flows_of, extras_of}
 use Rattle.point.proofs.Walks.{Walking, walk_begins, walk_ends, walk_room, walk_room_over, walk_turn, walk_turn_over}
 use Rattle.point.proofs.Nodes.{no_curve, top_at, Upto, Group, mark_none, mark_some, upto_none, upto_next, upto_root}
 use Rattle.point.proofs.evaluate.Statement.{statement}
@@ -31,19 +29,19 @@ abbrev all_of : Row → List ℕ → List ℕ
 all_of row extra = 0 ∷ extras_of row extra
 
 abbrev invariant-loop2 : tie.invariant-loop2
-invariant-loop2 row extra lefts waits tops c₀ k g first last j₀ c j =
+invariant-loop2 row extra none lefts waits tops k g first last c₀ j₀ c j =
     Walking (servers_of row) (top_at (servers_of row) (flows_of row) (all_of row extra) k)
     (curve_at (servers_of row) (flows_of row) (all_of row extra) k) last c j
 
 abbrev decreases-loop2 : tie.decreases-loop2
-decreases-loop2 row extra lefts waits tops c₀ k g first last j₀ c j = last + 1 - j
+decreases-loop2 row extra none lefts waits tops k g first last c₀ j₀ c j = last + 1 - j
 
 abbrev invariant-loop : tie.invariant-loop
-invariant-loop row extra lefts₀ waits₀ tops₀ c₀ k₀ lefts waits tops c k =
-    (0 < k) × (k ≤ row.count) × Upto (servers_of row) (flows_of row) (all_of row extra) k lefts waits tops × (length c.stages ≡ 16)
+invariant-loop row extra none lefts₀ waits₀ tops₀ k₀ lefts waits tops k =
+    (0 < k) × (k ≤ row.count) × Upto (servers_of row) (flows_of row) (all_of row extra) k lefts waits tops
 
 abbrev decreases-loop : tie.decreases-loop
-decreases-loop row extra lefts₀ waits₀ tops₀ c₀ k₀ lefts waits tops c k = k
+decreases-loop row extra none lefts₀ waits₀ tops₀ k₀ lefts waits tops k = k
 
 -- the row's numbers, and the lengths of its arrays
 module _ (s : tie.Start invariant-loop2 decreases-loop2 invariant-loop decreases-loop) where
@@ -109,13 +107,10 @@ module _ (a : tie.At-loop invariant-loop2 decreases-loop2 invariant-loop decreas
   unfolding node_of
   soon = subst (λ (g : Flow). least_wait curve g.burst + get_or (xs start) at 0 < 2 ^ 36) group_is fine.soon
 
--- the record with no server, whatever its entries hold
-abbrev emptied : List Stage → Curve
-emptied l = record { offset = 0; count = 0; stages = l }
-
-emptied-holds : (l : List Stage) → Holds (emptied l) neutral
-unfolding neutral
-emptied-holds l = record { shape = refl; count = refl; offset = refl }
+  -- the record that holds no server has all its entries
+  none-full : length a.before.none.result.stages ≡ 16
+  unfolding held neutral
+  none-full = rw a.before.none.ensures.is refl
 
 -- before server j of the path
 module _ (c : tie.In-loop2 invariant-loop2 decreases-loop2 invariant-loop decreases-loop) where
@@ -209,14 +204,9 @@ none-requires : tie.Need-none-requires invariant-loop2 decreases-loop2 invariant
 none-requires c κs = tt
 
 loop-holds : tie.Need-loop-init invariant-loop2 decreases-loop2 invariant-loop decreases-loop
-unfolding held neutral
 loop-holds c =
-    let s = c.before in (
-      s.requires.0.some,
-      omega arith,
-      upto_none (ss s) (gs s) (xs s) s.args.t1.count _ (groups_are s) s.requires.0.some s.requires.0.few refl,
-      rw c.none.ensures.is refl,
-    )
+    let s = c.before in
+    (s.requires.0.some, omega arith, upto_none (ss s) (gs s) (xs s) s.args.t1.count _ (groups_are s) s.requires.0.some s.requires.0.few refl)
 
 sub-k : tie.Need-overflow-sub-k invariant-loop2 decreases-loop2 invariant-loop decreases-loop
 sub-k c = omega arith
@@ -233,9 +223,9 @@ loop2-holds c =
     let s = start a in
     let h = group_is a in
     let p = placed a in
-    let l = a.loop.c.stages in
-    subst (λ (g : Flow). Walking (ss s) (begins a) (curve a) g.last (emptied l) g.first) h
-    (walk_begins (ss s) (get_or (gs s) (at a) no_flow) _ _ (emptied l) (emptied-holds l) a.loop.invariant.3 (rw h p.enters)
+    let n = a.before.none in
+    subst (λ (g : Flow). Walking (ss s) (begins a) (curve a) g.last n.result g.first) h
+    (walk_begins (ss s) (get_or (gs s) (at a) no_flow) _ _ n.result n.ensures.holds (none-full a) (rw h p.enters)
     (omega (arith, ap (λ (g : Flow). g.last) h, p.leaves, servers_are s)))
 
 mul-t : tie.Need-overflow-mul-t invariant-loop2 decreases-loop2 invariant-loop decreases-loop
@@ -330,32 +320,27 @@ loop2-again-2 c =
     (holds_joined w.holds g.marked.holds c.join.ensures.holds)
     (holds_long i.before.loop2.c _ g.marked.holds (omega (arith, w.full, (joins c.before).0)) c.join.ensures.is ∙ w.full))
 
-at-root-requires : tie.Need-at-root-requires invariant-loop2 decreases-loop2 invariant-loop decreases-loop
+delay-requires : tie.Need-delay-requires invariant-loop2 decreases-loop2 invariant-loop decreases-loop
 unfolding node_of
-at-root-requires c κs =
+delay-requires c κs =
     let a = c.before.before.before.before in
     let f = fine a in
-    let h = ended c.before in (
-      holds_in_range h f.few (omega (arith, f.near)) f.live,
-      holds_all (λ s. (its a).rate ≤ s.rate) h f.room,
-      f.light,
-      rw h.offset (bucket_small (curve a) (its a).burst (its a).rate f.some f.near f.live f.room f.light),
-    )
+    (holds_in_range (ended c.before) f.few (omega (arith, f.near)) f.live, omega (arith, f.light))
 
 returns : tie.Need-returns invariant-loop2 decreases-loop2 invariant-loop decreases-loop
 returns c =
     let a = c.before.before.before.before.before in
     let s = start a in
     let z : at a ≡ 0 = c.before.if2.true in
-    let w = a.loop.waits in
-    let e = c.at-root.ensures ∙ ap (λ (d : Shape). root_point d (its a) w) (ended c.before.before).shape in
-    let f = subst (λ (g : Flow). c.at-root.result ≡ root_point (curve a) g w) (sym (group_is a)) e in
+    let d = c.delay.result in
+    let e = holds_delay _ _ _ (ended c.before.before) c.delay.ensures.is in
+    let f = subst (λ (g : Flow). d ≡ delay (curve a) g.burst g.rate) (sym (group_is a)) e in
     record {
       is =
-          subst (λ (n : ℕ). c.at-root.result ≡ root_point (curve_at (ss s) (gs s) (xs s) n) (get_or (gs s) n no_flow) w) z f
-          ∙ upto_root (ss s) (gs s) (extras_of s.args.t1 s.args.t2) a.loop.lefts w a.loop.tops
-          (subst (λ (n : ℕ). Upto (ss s) (gs s) (xs s) (suc n) a.loop.lefts w a.loop.tops) z (up a))
-          (omega (arith, groups_are s, s.pre.0.some));
+          upto_root (ss s) (gs s) (extras_of s.args.t1 s.args.t2) a.loop.lefts a.loop.waits a.loop.tops
+          (subst (λ (n : ℕ). Upto (ss s) (gs s) (xs s) (suc n) a.loop.lefts a.loop.waits a.loop.tops) z (up a))
+          (omega (arith, groups_are s, s.pre.0.some)) d
+          (subst (λ (n : ℕ). d ≡ delay (curve_at (ss s) (gs s) (xs s) n) (get_or (gs s) n no_flow).burst (get_or (gs s) n no_flow).rate) z f);
     }
 
 least-wait-requires : tie.Need-least-wait-requires invariant-loop2 decreases-loop2 invariant-loop decreases-loop
@@ -434,7 +419,6 @@ loop-again c =
           (subst (λ (f : Flow). Holds c.remainder.result (node_of (curve a) f e).left) (sym g) h)
           (subst (λ (f : Flow). wait l ≡ (node_of (curve a) f e).wait) (sym g) (waited l))
           p.onward (omega (arith, p.leaves)) (omega (arith, p.onward, p.leaves, s.pre.0.short))),
-      l.before.before.before.loop2.invariant.full,
     )
 
 pub evaluate-spec : {M : Type 1} → statement M
@@ -472,7 +456,7 @@ evaluate-spec =
     add-j-2
     loop2-less-2
     loop2-again-2
-    at-root-requires
+    delay-requires
     returns
     least-wait-requires
     sub-wait

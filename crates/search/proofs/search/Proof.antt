@@ -95,7 +95,7 @@ returns-3 c =
     let d = v.before.args.row in
     let h = c.found-at3.ensures in
     let p = c.before.evaluate2.ensures.is ∙ ap (λ (es : List ℕ). point_of (answer_at d (extras_of d es))) (extras e) in
-    record { is = found_number d v.before.requires c.found-at3.result c.before.evaluate2.result b.best-number.result p b.best-number.ensures (h.0 ∙ started v, h.1, h.2, h.3) }
+    record { is = found_number d v.before.requires c.found-at3.result c.before.evaluate2.result b.best-number.result p b.best-number.ensures (h.0 ∙ started v, h.1, h.2) }
 
 pub search-spec : {M : Type 1} → statement M
 search-spec =
