@@ -1,4 +1,7 @@
 // The analysis: a sheet's bytes in, its refusal or its listing out.
+
+#![tactic(auto)]
+
 ghost use Rattle.std.specs.Prelude.{◌≡◌};
 ghost use Rattle.sheet.specs.Valid.{Valid};
 ghost use Rattle.search.specs.Point.{searched};
@@ -10,7 +13,7 @@ use fields::{Outcome, Why};
 use row::Row;
 
 // What the analysis says of a sheet: a refusal with its detail, or that the listing stands.
-#[derive(Drop)]
+#[derive(Clone, Copy)]
 pub enum Judged {
     Refused(Why, usize),
     Bounded,
@@ -18,7 +21,7 @@ pub enum Judged {
 
 // The analysis of a sheet, for the answer record and the report: the bound, the start, the grid used, the number of groups; the watched flow
 // and behind it the groups, each as one flow; and each group's wait. All are 0 where the sheet is refused.
-#[derive(Drop)]
+#[derive(Clone, Copy)]
 pub struct Analysed {
     pub judged: Judged,
     pub bound: u64,

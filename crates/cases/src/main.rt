@@ -3,6 +3,9 @@
 // The input is the number of cases in four bytes, then the cases. A case is a letter (n, r or w: number, read or write), two bytes
 // for the offset (n) or the room of the lent list or buffer (r, w), two for the size of what follows in bytes, and that many bytes:
 // the bytes to read, or four for each number to write. Every number here has its lowest byte first.
+
+#![tactic(auto)]
+
 ghost use Rattle.std.specs.Prelude.{◌+◌, ◌*◌, ◌≤◌, ◌<◌, length};
 
 use fields::{Outcome, Why};

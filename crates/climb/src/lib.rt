@@ -1,5 +1,8 @@
 // The search below a branch: the groups are chosen from the last to the first, toward the root, and what those chosen leave of the row is
 // handed on as one curve, a stage for each server.
+
+#![tactic(auto)]
+
 ghost use Rattle.std.specs.Prelude.{◌≡◌, ℕ, ◌+◌, ◌-◌, ◌*◌, ◌≤◌, ◌<◌, ◌^◌, min, ◌||◌, not, leb};
 ghost use Rattle.std.proofs.Math.Seq.{slice};
 ghost use Rattle.ground.specs.Each.{Each};
@@ -18,7 +21,7 @@ use grid::Steps;
 use tandem::{Flow, flow_in};
 
 // What the groups chosen so far leave of the row, the number that their digits write, and what a digit of the next group counts.
-#[derive(Drop)]
+#[derive(Clone, Copy)]
 pub struct Branch {
     pub curve: Curve,
     pub number: u64,

@@ -1,5 +1,8 @@
 // Composes a sheet: its numbers as text on standard input, and its bytes on standard output, or one line on standard error that says what is wrong
 // with the text and where.
+
+#![tactic(auto)]
+
 use text::Printed;
 
 // Composes the text of standard input; one byte more than a text may have is taken, so that one that is too long is told.

@@ -1,4 +1,7 @@
 // A sheet out of its text: its bytes, or one line that says what is wrong and where.
+
+#![tactic(auto)]
+
 ghost use Rattle.std.specs.Prelude.{◌≡◌, ◌+◌, ◌-◌, ◌≤◌, length};
 ghost use Rattle.std.proofs.lemmas.List.Edits.{sets};
 ghost use Rattle.text.specs.Contract.{Put};

@@ -1,5 +1,8 @@
 // Curves: what a stretch of servers guarantees, as an offset and stages (document 01, "Curves"). A curve is handed on whole, and a
 // new curve or a number comes back.
+
+#![tactic(auto)]
+
 ghost use Rattle.std.specs.Prelude.{◌≡◌, ◌+◌, ◌-◌, ◌≤◌, ◌<◌, ◌^◌, max};
 ghost use Rattle.std.proofs.Math.Seq.{slice};
 ghost use Rattle.ground.specs.Each.{Each};
@@ -9,14 +12,14 @@ ghost use Rattle.curves.specs.Held.{shape_of, Live, Leaves, InRange, Leaving};
 ghost use Rattle.curves.specs.Contract.{CatchUp, After, None, Join, Lag, Left, LeastWait, Remainder, Delay, Backlog};
 
 // A line that begins at `burst` bytes and rises by `rate` a slot.
-#[derive(Drop)]
+#[derive(Clone, Copy)]
 pub struct Stage {
     pub burst: u64,
     pub rate: u64,
 }
 
 // Nothing up to `offset`, then the least of the first `count` stages.
-#[derive(Drop)]
+#[derive(Clone, Copy)]
 pub struct Curve {
     pub offset: u64,
     pub count: usize,

@@ -1,4 +1,7 @@
 // The entries for the listing desk's programs in C: each gives refusal × 2^32 + detail as one number, with refusal 0 on success.
+
+#![tactic(auto)]
+
 ghost use Rattle.std.specs.Prelude.{◌≡◌, ◌≤◌, ◌<◌, length};
 ghost use Rattle.fields.specs.Refusal.{detail};
 ghost use Rattle.ground.specs.Buffer.{holds};
@@ -46,7 +49,7 @@ pub extern "C" fn gullbiscuit_write_sheet(numbers: &[u32], sheet: &mut [u8]) -> 
 }
 
 // The numbers of an answer record: the first `count` of `numbers`.
-#[derive(Drop)]
+#[derive(Clone, Copy)]
 struct Record {
     count: usize,
     numbers: [u32; 36],

@@ -1,18 +1,21 @@
 // The fields of a sheet: the rule of each, a cursor over them, one step over a field, and the numbers of all refusals.
+
+#![tactic(auto)]
+
 ghost use Rattle.std.specs.Prelude.{◌≡◌, ◌<◌};
 ghost use Rattle.fields.specs.Rule.{mode_rule, in_range, allowed, why_outside, is_past};
 ghost use Rattle.fields.specs.Cursor.{standing};
 ghost use Rattle.fields.specs.Contract.{PerServer, ServerPlace, FlowPlace, FieldRule, Start, After, StepOn, RefusalOf};
 
 // Whose rule it is: the reader's or the writer's.
-#[derive(Drop)]
+#[derive(Clone, Copy)]
 pub enum User {
     Reader,
     Writer,
 }
 
 // What a field may hold: a range; a range of servers; 0 or a range. Behind the last field there is none.
-#[derive(Drop)]
+#[derive(Clone, Copy)]
 pub enum Rule {
     Range(u32, u32),
     Path(u32, u32),
@@ -22,7 +25,7 @@ pub enum Rule {
 
 // Where a walk over the fields stands: the field's number in document 01's table, from 0; how many servers or cross flows are left, this one
 // included; N once it is known; and the field's rule.
-#[derive(Drop)]
+#[derive(Clone, Copy)]
 pub struct Cursor {
     pub field: usize,
     pub left: u32,
@@ -31,7 +34,7 @@ pub struct Cursor {
 }
 
 // Why a sheet or its analysis is refused; specs/Refusal.antt gives document 01's number and words of each, in this order.
-#[derive(Drop)]
+#[derive(Clone, Copy)]
 pub enum Why {
     Ends,
     Padded,
@@ -47,14 +50,14 @@ pub enum Why {
 }
 
 // What the reader and the writer give: the count or the length; or a refusal with its detail.
-#[derive(Drop)]
+#[derive(Clone, Copy)]
 pub enum Outcome {
     Done(usize),
     Refused(Why, usize),
 }
 
 // One field: a number that its rule admits, with the place behind it; a refusal; or the end of the sheet.
-#[derive(Drop)]
+#[derive(Clone, Copy)]
 pub enum Step {
     Value(u32, usize),
     Stop(Why, usize),

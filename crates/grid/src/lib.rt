@@ -1,9 +1,12 @@
 // The steps of a row's grid, and the extras of a point by its number.
+
+#![tactic(auto)]
+
 ghost use Rattle.std.specs.Prelude.{◌≤◌, ◌<◌, ◌^◌};
 ghost use Rattle.grid.specs.Contract.{StepsOf, ExtrasAt};
 
 // The steps of a grid in order, equal ones once, each with the first digit that has it: the first `count` of `digits` and `values`.
-#[derive(Drop)]
+#[derive(Clone, Copy)]
 pub struct Steps {
     pub start: u64,
     pub grid: u64,

@@ -1,1 +1,3 @@
 // Laws of numbers, values and lists that the crates above share; there is no code.
+
+#![tactic(auto)]

@@ -1,4 +1,7 @@
 // The names of a sheet's fields, and the ranges of their rules, as text.
+
+#![tactic(auto)]
+
 ghost use Rattle.std.specs.Prelude.{◌+◌, ◌≤◌, ◌≡◌, length};
 ghost use Rattle.text.specs.Contract.{Put};
 ghost use Rattle.naming.specs.Names.{name_of, seen, owner_at, name_at, ends_of, range_of};
@@ -7,7 +10,7 @@ ghost use Rattle.naming.specs.Contract.{NumberAt, ExtentOf, FieldAt};
 use fields::Rule;
 
 // What the places of a list's fields depend on: its edition, its number of servers and its number of cross flows.
-#[derive(Drop)]
+#[derive(Clone, Copy)]
 pub struct Extent {
     pub edition: u32,
     pub servers: u32,

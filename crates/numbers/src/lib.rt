@@ -1,11 +1,14 @@
 // One number in groups of seven bits, lowest first: read at a place of a byte string, its width, written at a place of a buffer.
+
+#![tactic(auto)]
+
 ghost use Rattle.std.specs.Prelude.{◌≡◌, ◌+◌, ◌-◌, ◌≤◌, ◌<◌, length, drop};
 ghost use Rattle.numbers.specs.Seven.{scan, number_at, encode};
 ghost use Rattle.numbers.specs.Inside.{settled, fifth_of, Continues};
 ghost use Rattle.numbers.specs.Contract.{ReadNumber, Width, PutNumber};
 
 // What stands at a place of a byte string. Document 01 gives `Padded` and `Large` one number, 2; they are told apart here.
-#[derive(Drop)]
+#[derive(Clone, Copy)]
 pub enum Got {
     // A number, and the place behind it.
     Number(u32, usize),

@@ -1,4 +1,7 @@
 // One point of a row's grid over the nesting tree, with whole curves: an array of curve records, child before parent.
+
+#![tactic(auto)]
+
 ghost use Rattle.std.specs.Prelude.{◌≡◌, ◌∷◌};
 ghost use Rattle.tree.specs.Plan.{plan};
 ghost use Rattle.tree.specs.Fine.{AllFine};
@@ -9,7 +12,7 @@ use curves::{Curve, Stage};
 use row::Row;
 
 // What stands at a point: the watched flow's delay, and each group's wait in order.
-#[derive(Drop)]
+#[derive(Clone, Copy)]
 pub struct Point {
     pub delay: u64,
     pub waits: [u64; 32],

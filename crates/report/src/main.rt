@@ -1,5 +1,8 @@
 // The report: a sheet on standard input, and what the analysis says of it, in lines: a listing on standard output, or the line of a refusal on
 // standard error, by which whoever starts the program can tell it from an answer.
+
+#![tactic(auto)]
+
 use text::Printed;
 
 // Takes at most the first 1,024 bytes of standard input, and prints the report of the sheet they are.

@@ -1,4 +1,7 @@
 // The row that is searched: its flows, in lent lists whoever made them, put together into groups, and the checks that it must pass.
+
+#![tactic(auto)]
+
 ghost use Rattle.std.specs.Prelude.{◌≡◌, ◌&&◌, false, ◌+◌, ◌-◌, ◌*◌, ◌^◌, ◌≤◌, ◌<◌, max, ltb, eqb, length, get_or, replicate};
 ghost use Rattle.sheet.specs.Valid.{Valid};
 ghost use Rattle.tandem.specs.OfSheet.{listed};
@@ -16,7 +19,7 @@ use tandem::{
 };
 
 // A row: its servers; the watched flow, and behind it the groups in order, each as one flow; the mode; and the grid with 0 replaced by its meaning.
-#[derive(Drop)]
+#[derive(Clone, Copy)]
 pub struct Row {
     pub size: usize,
     pub servers: [Server; 16],
@@ -28,7 +31,7 @@ pub struct Row {
 
 // What the checks say of a row: nothing against it; two paths cross; the rates at a server, the lowest such, sum above its rate; the
 // grid has too many points, for that many groups.
-#[derive(Drop)]
+#[derive(Clone, Copy)]
 pub enum Check {
     Passed,
     Crossing,
@@ -37,14 +40,14 @@ pub enum Check {
 }
 
 // The checks' answer, beside the row; where the row is refused, it is left empty.
-#[derive(Drop)]
+#[derive(Clone, Copy)]
 pub struct Formed {
     pub check: Check,
     pub row: Row,
 }
 
 // The watched flow and behind it the groups, and how many these are.
-#[derive(Drop)]
+#[derive(Clone, Copy)]
 struct Grouped {
     count: usize,
     groups: [Flow; 32],

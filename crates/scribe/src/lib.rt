@@ -1,10 +1,13 @@
 // A sheet's numbers as text: decimal numbers with blanks or line ends between them, and comments from `#` to the line's end.
+
+#![tactic(auto)]
+
 ghost use Rattle.std.specs.Prelude.{◌≡◌, ◌+◌, ◌≤◌, ◌<◌, get_or};
 ghost use Rattle.scribe.specs.Text.{is_blank, is_digit, outside_by, longer_by, inside_by, turn_of, line_after};
 ghost use Rattle.scribe.specs.Contract.{NumbersOfText};
 
 // Where in the text the reader stands: between numbers, in a comment, or inside a number whose digits so far are worth this.
-#[derive(Drop)]
+#[derive(Clone, Copy)]
 pub enum Mark {
     Between,
     Comment,
@@ -12,7 +15,7 @@ pub enum Mark {
 }
 
 // What is wrong with a text: a byte that no number has; a number above 4,294,967,295; more numbers than there is room for.
-#[derive(Drop)]
+#[derive(Clone, Copy)]
 pub enum Slip {
     Word,
     Large,
@@ -20,7 +23,7 @@ pub enum Slip {
 }
 
 // What a byte does: the reader goes on; a number ends; or the text is wrong.
-#[derive(Drop)]
+#[derive(Clone, Copy)]
 pub enum Turn {
     On(Mark),
     Number(u32, Mark),
@@ -28,7 +31,7 @@ pub enum Turn {
 }
 
 // What a text gives: the count of its numbers; or what is wrong, and in which line, counted from 1.
-#[derive(Drop)]
+#[derive(Clone, Copy)]
 pub enum Scribed {
     Numbers(usize),
     Wrong(Slip, usize),

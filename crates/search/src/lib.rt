@@ -1,5 +1,8 @@
 // The search of a row: the first point of its grid with the least delay. The start and the answer's own point are worked out with whole
 // curves over the nesting tree (crate `point`); which point it is, the recursion over the groups finds (crate `climb`).
+
+#![tactic(auto)]
+
 ghost use Rattle.std.specs.Prelude.{◌≡◌, ℕ, ◌+◌, ◌-◌, ◌≤◌, ◌<◌, ◌^◌, length, get_or, drop};
 ghost use Rattle.tandem.specs.Tandem.{no_flow};
 ghost use Rattle.curves.specs.Held.{Holds};
@@ -23,7 +26,7 @@ use point::Point;
 use row::Row;
 
 // What the search gives: the delay with no extras, the least delay, and each group's wait at the first point that has it.
-#[derive(Drop)]
+#[derive(Clone, Copy)]
 pub struct Found {
     pub start: u64,
     pub bound: u64,

@@ -1,4 +1,7 @@
 // The sheet: the reader and the writer, which walk over its fields by one rule.
+
+#![tactic(auto)]
+
 ghost use Rattle.std.specs.Prelude.{◌≡◌, ◌+◌, ◌≤◌, ◌<◌, ◌++◌, length, take, drop};
 ghost use Rattle.fields.specs.Rule.{most};
 ghost use Rattle.sheet.specs.Sheet.{entry_at, sheet_of, list_of, encode_all};

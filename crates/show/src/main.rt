@@ -1,5 +1,8 @@
 // Shows a sheet: its bytes on standard input, and its numbers as text on standard output, a line for each with the name of its field; `compose`
 // makes the same sheet of it. The line of a refusal goes to standard error.
+
+#![tactic(auto)]
+
 use text::Printed;
 
 // Takes at most the first 1,024 bytes of standard input, and prints the text of the sheet they are.

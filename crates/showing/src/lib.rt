@@ -1,4 +1,7 @@
 // A sheet as text: a line for each number, with the name of its field.
+
+#![tactic(auto)]
+
 ghost use Rattle.std.specs.Prelude.{◌≡◌, ◌+◌, ◌≤◌, ◌<◌, length};
 ghost use Rattle.std.proofs.lemmas.List.Edits.{sets};
 ghost use Rattle.sheet.specs.Sheet.{sheet_of};

@@ -1,4 +1,7 @@
 // The row with its single flows: a sheet's servers and flows, the rates at each server, and check 7.
+
+#![tactic(auto)]
+
 ghost use Rattle.std.specs.Prelude.{◌≡◌, ◌+◌, ◌-◌, ◌*◌, ◌≤◌, ◌<◌, length};
 ghost use Rattle.sheet.specs.Valid.{Valid, server_count, flow_count};
 ghost use Rattle.tandem.specs.OfSheet.{tandem_of};
@@ -7,14 +10,14 @@ ghost use Rattle.tandem.specs.Contract.{ServerCount, FlowCount, FlowTotal, Serve
 ghost use Rattle.tandem.specs.Contract.{ListServers, ListFlows, FlowIn, LoadsOf, LowestCrowded};
 
 // A server: its rate R in bytes a slot and its latency T in slots.
-#[derive(Drop)]
+#[derive(Clone, Copy)]
 pub struct Server {
     pub rate: u64,
     pub latency: u64,
 }
 
 // A flow: its first and last server, counted from 1, and its token bucket.
-#[derive(Drop)]
+#[derive(Clone, Copy)]
 pub struct Flow {
     pub first: usize,
     pub last: usize,

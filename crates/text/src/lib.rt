@@ -1,11 +1,14 @@
 // Text as bytes: decimal numbers, words and the lines made of them, written at a place of a lent buffer. All commands print by these.
+
+#![tactic(auto)]
+
 ghost use Rattle.std.specs.Prelude.{◌+◌, ◌≤◌, length, take};
 ghost use Rattle.text.specs.Decimal.{decimal};
 ghost use Rattle.text.specs.Lines.{field, line, refusal_line};
 ghost use Rattle.text.specs.Contract.{BytesOf, DecimalWidth, Put, HandOver};
 
 // What a command has to print, with its length in bytes: an answer, or the line of a refusal.
-#[derive(Drop)]
+#[derive(Clone, Copy)]
 pub enum Printed {
     Answer(usize),
     Refusal(usize),
