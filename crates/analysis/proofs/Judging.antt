@@ -14,9 +14,9 @@ use Rattle.row.specs.OfSheet.{row_of, check_of, formed_of}
 use Rattle.search.specs.Point.{searched}
 use Rattle.search.specs.Searchable.{Searchable}
 use Rattle.analysis.specs.Verdict.{refused, listing_of, verdict_by, verdict_on}
-use Rattle.analysis.specs.VerdictLaws.{passed_listed}
+use Rattle.analysis.proofs.VerdictLaws.{passed_listed}
 use Rattle.analysis.specs.Held.{blank, filled, row_held, numbers_held}
-use Rattle.analysis.specs.SearchLaws.{search_is_searched, searchable, count_held}
+use Rattle.analysis.proofs.SearchLaws.{search_is_searched, searchable, count_held}
 
 -- what was formed of a sheet's numbers
 module _ (xs : List ℕ) (r : Formed) (formed : r ≡ formed_of xs) where

@@ -1,1 +1,5 @@
+pub mod SearchLaws
+pub mod VerdictLaws
+pub mod Figures
+pub mod Unique
 pub mod Judging

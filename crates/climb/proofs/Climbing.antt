@@ -17,31 +17,31 @@ use Rattle.tandem.specs.Tandem.{no_flow}
 use Rattle.curves.specs.declared.Stage.{Stage}
 use Rattle.curves.specs.Curve.{Shape, Rates, line, delay}
 use Rattle.curves.specs.Held.{Live, Leaves, InRange, Holds, shape_of}
-use Rattle.curves.specs.HeldLaws.{live_rates}
-use Rattle.curves.specs.DelayLaws.{delay_le}
+use Rattle.curves.proofs.HeldLaws.{live_rates}
+use Rattle.curves.proofs.DelayLaws.{delay_le}
 use Rattle.curves.specs.Part.{changed, lag_in}
-use Rattle.curves.specs.PartLaws.{changed_inside, changed_outside, lag_le}
+use Rattle.curves.proofs.PartLaws.{changed_inside, changed_outside, lag_le}
 use Rattle.tandem.specs.declared.Flow.{Flow}
 use Rattle.tandem.specs.Sums.{weigh}
-use Rattle.tandem.specs.TestLaws.{or_cases}
-use Rattle.tandem.specs.OfSheetLaws.{length_listed, listed_at}
+use Rattle.tandem.proofs.TestLaws.{or_cases}
+use Rattle.tandem.proofs.OfSheetLaws.{length_listed, listed_at}
 use Rattle.ground.specs.Each.{Each}
-use Rattle.ground.specs.EachLaws.{each_at, each_map}
+use Rattle.ground.proofs.EachLaws.{each_at, each_map}
 use Rattle.tree.specs.Ordered.{Placed}
 use Rattle.grid.specs.declared.Steps.{Steps}
 use Rattle.grid.specs.Steps.{step_at, digits_of, values_of}
-use Rattle.grid.specs.StepsLaws.{steps_le, steps_few, digits_held, values_held, digits_full, values_full}
+use Rattle.grid.proofs.StepsLaws.{steps_le, steps_few, digits_held, values_held, digits_full, values_full}
 use Rattle.tandem.specs.Lent.{lent_flow}
 use Rattle.keys.specs.Numbers.{first_digits, Growing}
-use Rattle.keys.specs.NumberLaws.{first_digits_stand, first_digits_grow}
+use Rattle.keys.proofs.NumberLaws.{first_digits_stand, first_digits_grow}
 use Rattle.keys.specs.Keys.{least_of}
-use Rattle.keys.specs.KeyLaws.{least_le}
+use Rattle.keys.proofs.KeyLaws.{least_le}
 use Rattle.keys.specs.Left.{lag_of, left_by, passes}
-use Rattle.keys.specs.ServerLaws.{passes_cases, left_offset, left_by_length}
+use Rattle.keys.proofs.ServerLaws.{passes_cases, left_offset, left_by_length}
 use Rattle.keys.specs.State.{State, state, chosen, Moving, Small, want_of, rest_of, gives_beside, gives_under}
-use Rattle.keys.specs.StateLaws.{keys_over, moving_next, step_rises, not_true}
-use Rattle.keys.specs.TurnLaws.{Turned, turned_none, passed_late, passed_lacking, turned_more, turned_past, turned_all, value_at_lem}
-use Rattle.keys.specs.UseLaws.{moving_rates, path_live, path_leaves, small_next, small_line, want_next, gives_same}
+use Rattle.keys.proofs.StateLaws.{keys_over, moving_next, step_rises, not_true}
+use Rattle.keys.proofs.TurnLaws.{Turned, turned_none, passed_late, passed_lacking, turned_more, turned_past, turned_all, value_at_lem}
+use Rattle.keys.proofs.UseLaws.{moving_rates, path_live, path_leaves, small_next, small_line, want_next, gives_same}
 use Rattle.climb.specs.declared.Branch.{Branch}
 use Rattle.climb.specs.Branch.{state_of, watched_in, groups_in, want_in}
 use Rattle.climb.specs.Asked.{Takes, Asks}

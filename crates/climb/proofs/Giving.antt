@@ -12,7 +12,7 @@ use lib.Seq.{slice}
 use Rattle.curves.specs.declared.Stage.{Stage}
 use Rattle.curves.specs.Curve.{line}
 use Rattle.curves.specs.Held.{blank}
-use Rattle.curves.specs.PartLaws.{next_slice}
+use Rattle.curves.proofs.PartLaws.{next_slice}
 use Rattle.tandem.specs.declared.Flow.{Flow}
 use Rattle.keys.specs.State.{gives, gives_beside}
 

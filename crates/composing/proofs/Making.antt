@@ -7,15 +7,15 @@ use native.Mathlib.Omega.{arith}
 use lib.ListN.{length, take}
 use lib.Seq.{sets, length-sets}
 use borrow.Author.Tests.{lt-ltb, le-ltb}
-use Rattle.ground.specs.BufferLaws.{stored, stored_front}
+use Rattle.ground.proofs.BufferLaws.{stored, stored_front}
 use Rattle.fields.specs.declared.Outcome.{Outcome}
 use Rattle.fields.specs.declared.Outcome.TheVariants as outcome
 use Rattle.fields.specs.declared.Why.{Why}
 use Rattle.sheet.specs.Sheet.{Found, fail, these, list_of, encode_all, write_gives, write_holds}
-use Rattle.sheet.specs.ValidLaws.{listed_valid}
-use Rattle.sheet.specs.WalkLaws.{list_whole}
-use Rattle.sheet.specs.SizeLaws.{valid_bytes}
-use Rattle.sheet.specs.TripLaws.{gives_room}
+use Rattle.sheet.proofs.ValidLaws.{listed_valid}
+use Rattle.sheet.proofs.WalkLaws.{list_whole}
+use Rattle.sheet.proofs.SizeLaws.{valid_bytes}
+use Rattle.sheet.proofs.TripLaws.{gives_room}
 use Rattle.sheet.specs.Contract.{WriteSheet}
 use Rattle.text.specs.declared.Printed.{Printed}
 use Rattle.text.specs.declared.Printed.TheVariants.{Answer}
@@ -25,10 +25,10 @@ use Rattle.scribe.specs.declared.Scribed.{Scribed}
 use Rattle.scribe.specs.declared.Scribed.TheVariants as gave
 use Rattle.scribe.specs.declared.Slip.{Slip}
 use Rattle.scribe.specs.Text as scribe
-use Rattle.scribe.specs.TextLaws.{text_few}
+use Rattle.scribe.proofs.TextLaws.{text_few}
 use Rattle.scribe.specs.Contract.{NumbersOfText}
 use Rattle.composing.specs.Composed.{long_text, slip_line, wrong, by_writer, by_text, composed, composed_bytes, composed_printed, compose_page}
-use Rattle.composing.specs.ComposedLaws.{composed_short, composed_bytes_lem}
+use Rattle.composing.proofs.ComposedLaws.{composed_short, composed_bytes_lem}
 use Rattle.composing.specs.Inside.{by_list}
 use Rattle.composing.specs.Contract.{Compose}
 

@@ -11,7 +11,7 @@ use Rattle.ground.specs.Each.{Each}
 use Rattle.curves.specs.declared.Stage.{Stage}
 use Rattle.curves.specs.Curve.{greatest}
 use Rattle.curves.specs.Held.{Live, blank}
-use Rattle.curves.specs.PartLaws.{all_slice, next_slice}
+use Rattle.curves.proofs.PartLaws.{all_slice, next_slice}
 
 -- the greatest of f over a part of the stages, none of which is above `top`: `most` and what the stages from i on have make the whole; n stages of the
 -- array are the curve's

@@ -2,15 +2,4 @@ pub mod Slots
 pub mod Curve
 pub mod Held
 pub mod Part
-pub mod SlotsLaws
-pub mod StageLaws
-pub mod CurveLaws
-pub mod JoinLaws
-pub mod RemainderLaws
-pub mod DelayLaws
-pub mod BacklogLaws
-pub mod HeldLaws
-pub mod PartLaws
-pub mod Figures
 pub mod Contract
-pub mod Unique

@@ -6,7 +6,7 @@ use mathlib.Core.List.{List}
 use native.Mathlib.Omega.{arith}
 use lib.ListN.{length, take, replicate, length-append, length-replicate, get_or-append}
 use lib.Seq.{take_at}
-use Rattle.numbers.specs.SevenLaws.{Bytes}
+use Rattle.numbers.proofs.SevenLaws.{Bytes}
 use Rattle.fields.specs.declared.Why.{Why}
 use Rattle.tandem.specs.declared.Flow.{Flow}
 use Rattle.row.specs.RowFor.{padded}
@@ -15,8 +15,8 @@ use Rattle.analysis.specs.declared.Judged.TheVariants.{Refused, Bounded}
 use Rattle.analysis.specs.declared.Analysed.{Analysed}
 use Rattle.analysis.specs.Verdict.{Listing, listing_of, refused, bounded, verdict_of, record_numbers}
 use Rattle.analysis.specs.Held.{filled, analysed_of}
-use Rattle.analysis.specs.VerdictLaws.{Case, refusing, listing, case_of, Cause, of_bytes, of_row, Small, listing_small}
-use Rattle.sheet.specs.DetailLaws.{read_place}
+use Rattle.analysis.proofs.VerdictLaws.{Case, refusing, listing, case_of, Cause, of_bytes, of_row, Small, listing_small}
+use Rattle.sheet.proofs.DetailLaws.{read_place}
 use Rattle.desk.specs.Record.{record_in, Fits}
 
 -- a listing as it is held: its waits at the front, zeros behind

@@ -1,2 +1,8 @@
+pub mod Unique
+pub mod DetailLaws
+pub mod SaysLaws
+pub mod DemandLaws
+pub mod EntryLaws
+pub mod Figures
 pub mod Recording
 pub mod Answering

@@ -2,11 +2,5 @@ pub mod Packed
 pub mod Answer
 pub mod Record
 pub mod Contract
-pub mod Unique
 pub mod Says
-pub mod DetailLaws
-pub mod SaysLaws
 pub mod Answered
-pub mod DemandLaws
-pub mod EntryLaws
-pub mod Figures

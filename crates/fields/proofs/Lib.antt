@@ -1,1 +1,6 @@
+pub mod Unique
+pub mod StepLaws
+pub mod PlaceLaws
+pub mod CursorLaws
+pub mod Figures
 pub mod Moving

@@ -8,7 +8,7 @@ use lib.ListN.{get_or}
 use Rattle.fields.specs.declared.User.{User}
 use Rattle.fields.specs.declared.Cursor.{Cursor}
 use Rattle.fields.specs.Cursor.{standing, moves, ended, cursor_after}
-use Rattle.fields.specs.CursorLaws.{cursor_from}
+use Rattle.fields.proofs.CursorLaws.{cursor_from}
 
 pub from_field : (user : User) (c : Cursor) (x k : ℕ) → c.field ≡ k → get_or (moves user c x) k (ended user c x) ≡ cursor_after user c x
 from_field user c x k e = sym (cursor_from user c x k e)

@@ -3,8 +3,3 @@ pub mod Cursor
 pub mod Step
 pub mod Refusal
 pub mod Contract
-pub mod Unique
-pub mod StepLaws
-pub mod PlaceLaws
-pub mod CursorLaws
-pub mod Figures

@@ -8,7 +8,7 @@ use lib.ListN.{length, set, drop, replicate, length-set}
 use lib.Seq.{drop-cons, get_or-set_same, drop-set-lt}
 use Rattle.row.specs.RowFor.{padded}
 use Rattle.keys.specs.Numbers.{point_at}
-use Rattle.keys.specs.UseLaws.{point_length}
+use Rattle.keys.proofs.UseLaws.{point_length}
 
 -- the extras of `rest` to the first k groups, and those of the other groups in place, are the whole
 pub record Decoding (step : ℕ → ℕ) (g groups number : ℕ) (extra : List ℕ) (rest k : ℕ) : Type 0 where

@@ -1,2 +1,4 @@
+pub mod StepsLaws
+pub mod Unique
 pub mod Stepping
 pub mod Decoding

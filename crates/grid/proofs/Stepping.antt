@@ -11,7 +11,7 @@ use lib.Seq.{set-append_seam}
 use Rattle.row.specs.RowFor.{padded}
 use Rattle.keys.specs.Numbers.{first_digits}
 use Rattle.grid.specs.Steps.{step_at, steps_in}
-use Rattle.grid.specs.StepsLaws.{step_zero}
+use Rattle.grid.proofs.StepsLaws.{step_zero}
 
 -- digits 0 to i - 1 are collected, and `last` is the step of the last of them
 pub record Stepping (start g : ℕ) (values digits : List ℕ) (count last i : ℕ) : Type 0 where

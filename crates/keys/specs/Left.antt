@@ -11,7 +11,7 @@ use Rattle.tandem.specs.declared.Server.{Server}
 use Rattle.tandem.specs.declared.Flow.{Flow}
 use Rattle.tree.specs.Plan.{head_of, tail_of}
 use Rattle.tree.specs.Amounts.{sum_of}
-use Rattle.tree.specs.PruneLaws.{latencies_of}
+use Rattle.tree.proofs.PruneLaws.{latencies_of}
 
 -- all servers, before any group is taken out
 unfoldable pub row_curve : List Server → Shape

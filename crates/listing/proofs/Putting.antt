@@ -11,8 +11,8 @@ use Rattle.tandem.specs.Tandem.{no_flow}
 use Rattle.tandem.specs.declared.Flow.{Flow}
 use Rattle.listing.specs.Text.{group_line}
 use Rattle.text.specs.Contract.{Put}
-use Rattle.ground.specs.BufferLaws.{sets_append}
-use Rattle.text.specs.PutLaws.{put_then, put_long}
+use Rattle.ground.proofs.BufferLaws.{sets_append}
+use Rattle.text.proofs.PutLaws.{put_then, put_long}
 use Rattle.listing.specs.Held.{lines_of}
 
 pub put_three : (a b c before : List ℕ) (at : ℕ) {first second after : List ℕ} {p q r : ℕ} → Put a before at p first → Put b first p q second

@@ -6,7 +6,7 @@ use mathlib.Core.List.{List}
 use native.Mathlib.Omega.{arith}
 use lib.ListN.{length, take}
 use lib.Seq.{sets, length-sets}
-use Rattle.ground.specs.BufferLaws.{stored_front}
+use Rattle.ground.proofs.BufferLaws.{stored_front}
 use Rattle.analysis.specs.declared.Analysed.{Analysed}
 use Rattle.analysis.specs.Verdict.{verdict_of}
 use Rattle.analysis.specs.Held.{analysed_of}
@@ -15,7 +15,7 @@ use Rattle.text.specs.Lines.{bytes_of}
 use Rattle.text.specs.Contract.{HandOver}
 use Rattle.listing.specs.Text.{report_of, printed_of, page_most}
 use Rattle.listing.specs.Held.{text_held, printed_held}
-use Rattle.listing.specs.HeldLaws.{text_is, held_few, text_short, printed_bytes}
+use Rattle.listing.proofs.HeldLaws.{text_is, held_few, text_short, printed_bytes}
 use Rattle.listing.specs.Contract.{Report}
 
 module _ (bytes : List ℕ) (a : Analysed) (is : a ≡ analysed_of bytes) where

@@ -1,2 +1,5 @@
+pub mod Unique
+pub mod SevenLaws
+pub mod Figures
 pub mod Scan
 pub mod Putting

@@ -7,9 +7,9 @@ use native.Mathlib.Numerals.{add-one}
 use native.Mathlib.Omega.{arith}
 use lib.ListN.{length, set, length-set}
 use lib.Seq.{sets}
-use Rattle.ground.specs.BaseLaws.{below_power}
+use Rattle.ground.proofs.BaseLaws.{below_power}
 use Rattle.numbers.specs.Seven.{groups, encode}
-use Rattle.numbers.specs.SevenLaws.{groups_last, groups_more, groups_some}
+use Rattle.numbers.proofs.SevenLaws.{groups_last, groups_more, groups_some}
 
 -- where the writer stands: what is left to write is the groups of `rest`, at p, and `left` groups may follow the next
 pub record Putting (first : List ℕ) (at x : ℕ) (buf : List ℕ) (p rest : ℕ) : Type 0 where

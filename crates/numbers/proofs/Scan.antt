@@ -12,7 +12,7 @@ use lib.ListN.{length, get_or, drop, drop_of_length-le}
 use lib.Seq.{drop-cons}
 use lib.Dec.{eqb}
 use borrow.Author.Tests.{lt-ltb, le-ltb}
-use Rattle.ground.specs.OrderLaws.{lt_or_ge}
+use Rattle.ground.proofs.OrderLaws.{lt_or_ge}
 use Rattle.numbers.specs.declared.Got.TheVariants.{Number, Ends, Large}
 use Rattle.numbers.specs.Inside.{settled, fifth_of, Continues}
 use Rattle.numbers.specs.Seven.{Run, ends, long, run, push, scan, judge, number_at}

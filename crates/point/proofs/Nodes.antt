@@ -19,7 +19,7 @@ use Rattle.tandem.specs.declared.Flow.{Flow}
 use Rattle.tree.specs.Plan.{Node, Top, alone, over, top_of, node_of, plan}
 use Rattle.point.specs.declared.Point.{Point}
 use Rattle.tree.specs.Planned.{waits_of, answer_of}
-use Rattle.tree.specs.NodeLaws.{plan_from, curve_at, node_at, plan_length, plan_at}
+use Rattle.tree.proofs.NodeLaws.{plan_from, curve_at, node_at, plan_length, plan_at}
 use Rattle.point.specs.Point.{point_of}
 
 abbrev pub no_curve : Curve

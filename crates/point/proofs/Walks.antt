@@ -17,7 +17,7 @@ use Rattle.curves.specs.Held.{Holds}
 use Rattle.tandem.specs.declared.Server.{Server}
 use Rattle.tandem.specs.declared.Flow.{Flow}
 use Rattle.tree.specs.Plan.{Node, Top, alone, over, top_of, server_curve, piece_on, along, node_curve}
-use Rattle.tree.specs.NodeLaws.{along_alone, along_over, along_end}
+use Rattle.tree.proofs.NodeLaws.{along_alone, along_over, along_end}
 
 -- c is part of d: no larger offset, no more stages
 pub record PartOf (c d : Shape) : Type 0 where

@@ -11,10 +11,10 @@ use borrow.Author.Tests.{lt-ltb}
 use Rattle.sheet.specs.Valid.{grid}
 use Rattle.tandem.specs.Tandem.{Tandem, size, no_server}
 use Rattle.tandem.specs.Crowded.{lowest_crowded}
-use Rattle.tandem.specs.CrowdedLaws.{sound_uncrowded}
+use Rattle.tandem.proofs.CrowdedLaws.{sound_uncrowded}
 use Rattle.tandem.specs.Sound.{Sound, Limits}
 use Rattle.tandem.specs.OfSheet.{listed}
-use Rattle.tandem.specs.OfSheetLaws.{length_listed}
+use Rattle.tandem.proofs.OfSheetLaws.{length_listed}
 use Rattle.tandem.specs.Lent.{server_in, tandem_in, alone}
 use Rattle.row.specs.declared.Row.{Row}
 use Rattle.row.specs.declared.Check.TheVariants.{Passed, Crossing, Crowded, Points}
@@ -22,8 +22,8 @@ use Rattle.row.specs.Groups.{groups, grouped, reads}
 use Rattle.row.specs.Checks.{overlaps, not_nested, too_many}
 use Rattle.row.specs.RowFor.{padded, row_for, formed_for}
 use Rattle.row.specs.Parts.{Groupable, grouped_for, refused_by}
-use Rattle.row.specs.CheckLaws.{accepted_row}
-use Rattle.row.specs.CountLaws.{few_groups}
+use Rattle.row.proofs.CheckLaws.{accepted_row}
+use Rattle.row.proofs.CountLaws.{few_groups}
 
 -- check 6 reads no server
 pub nested_alone : (servers : List ℕ) (size : ℕ) (flows : List ℕ) (n : ℕ) → not_nested (tandem_in servers size flows n) ≡ not_nested (alone flows n)

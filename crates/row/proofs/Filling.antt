@@ -9,7 +9,7 @@ use lib.Seq.{set-append_seam}
 use native.Mathlib.Numerals.{add-one}
 use Rattle.tandem.specs.OfSheet.{listed}
 use Rattle.row.specs.RowFor.{padded}
-use Rattle.tandem.specs.OfSheetLaws.{length_listed}
+use Rattle.tandem.proofs.OfSheetLaws.{length_listed}
 
 module _ {B : Type 0} (n : ℕ) (z : B) (l : List B) where
   pub padded_more : (x : B) → length l < n → set (padded n z l) (length l) x ≡ padded n z (l ++ (x ∷ []))

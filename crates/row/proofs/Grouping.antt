@@ -12,12 +12,12 @@ use lib.ListN.{length, get_or, set, replicate, length-append, length-map}
 use Rattle.tandem.specs.declared.Flow.{Flow}
 use Rattle.tandem.specs.Sums.{any}
 use Rattle.tandem.specs.Tandem.{Tandem, Path, size, flow, on, bursts, rates, no_flow}
-use Rattle.tandem.specs.TestLaws.{not_passed, decide}
-use Rattle.tandem.specs.SumLaws.{some_weight, no_weight}
+use Rattle.tandem.proofs.TestLaws.{not_passed, decide}
+use Rattle.tandem.proofs.SumLaws.{some_weight, no_weight}
 use Rattle.tandem.specs.OfSheet.{listed}
-use Rattle.tandem.specs.OfSheetLaws.{length_listed}
+use Rattle.tandem.proofs.OfSheetLaws.{length_listed}
 use Rattle.tandem.specs.Lent.{server_in, lent_flow, flows_in, tandem_in, alone, Wide, Lent}
-use Rattle.tandem.specs.LentLaws.{flow_held, count_held}
+use Rattle.tandem.proofs.LentLaws.{flow_held, count_held}
 use Rattle.row.specs.Groups.{used, path, put, from, from_on, groups, grouped, reads}
 use Rattle.row.specs.RowFor.{padded}
 use Rattle.row.specs.Alike.{Inside}

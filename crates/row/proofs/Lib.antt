@@ -1,3 +1,11 @@
+pub mod OrderLaws
+pub mod AlikeLaws
+pub mod CountLaws
+pub mod CheckLaws
+pub mod OfSheetLaws
+pub mod SameLaws
+pub mod Figures
+pub mod Unique
 pub mod Filling
 pub mod Checking
 pub mod Reaching

@@ -15,14 +15,14 @@ use lib.Seq.{get_or-set_same, get_or-set_other}
 use Rattle.tandem.specs.declared.Flow.{Flow}
 use Rattle.tandem.specs.Sums.{weigh, any}
 use Rattle.tandem.specs.Tandem.{Tandem, Path, size, flow, on}
-use Rattle.ground.specs.OrderLaws.{le_or_lt}
-use Rattle.tandem.specs.TestLaws.{not_passed, same_test}
-use Rattle.tandem.specs.SumLaws.{any_at, any_found, none_passes}
-use Rattle.tandem.specs.TandemLaws.{on_is}
+use Rattle.ground.proofs.OrderLaws.{le_or_lt}
+use Rattle.tandem.proofs.TestLaws.{not_passed, same_test}
+use Rattle.tandem.proofs.SumLaws.{any_at, any_found, none_passes}
+use Rattle.tandem.proofs.TandemLaws.{on_is}
 use Rattle.row.specs.Groups.{used, path, from, from_on, groups}
 use Rattle.row.specs.Checks.{not_nested}
 use Rattle.row.specs.Sentences.{Crossed}
-use Rattle.row.specs.CheckLaws.{not_nested_crossed, crossed_not_nested}
+use Rattle.row.proofs.CheckLaws.{not_nested_crossed, crossed_not_nested}
 use Rattle.row.specs.Alike.{Inside}
 use Rattle.row.specs.Parts.{reach_of, Reached, overreached}
 

@@ -13,11 +13,11 @@ use lib.Seq.{get_or-set_same, get_or-set_other}
 use Rattle.tandem.specs.declared.Flow.{Flow}
 use Rattle.tandem.specs.Sums.{weigh, total}
 use Rattle.tandem.specs.Tandem.{Tandem, flow, on}
-use Rattle.tandem.specs.TestLaws.{not_passed}
-use Rattle.tandem.specs.SumLaws.{total_most, weigh_most}
-use Rattle.tandem.specs.TandemLaws.{on_is, is_on}
+use Rattle.tandem.proofs.TestLaws.{not_passed}
+use Rattle.tandem.proofs.SumLaws.{total_most, weigh_most}
+use Rattle.tandem.proofs.TandemLaws.{on_is, is_on}
 use Rattle.tandem.specs.Lent.{lent_flow, alone, Wide, Laid}
-use Rattle.tandem.specs.LentLaws.{flow_held, count_held}
+use Rattle.tandem.proofs.LentLaws.{flow_held, count_held}
 use Rattle.row.specs.Groups.{path}
 use Rattle.row.specs.Parts.{amount, place_of, Summed}
 

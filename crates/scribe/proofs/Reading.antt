@@ -16,7 +16,7 @@ use Rattle.scribe.specs.declared.Slip.TheVariants.{Many}
 use Rattle.scribe.specs.declared.Turn.TheVariants as turn
 use Rattle.scribe.specs.declared.Scribed.TheVariants as gave
 use Rattle.scribe.specs.Text.{Said, these, wrong, also, turn_of, line_after, text_from, text_of, gives_text, numbers_in}
-use Rattle.scribe.specs.TextLaws.{byte_behind, none_behind}
+use Rattle.scribe.proofs.TextLaws.{byte_behind, none_behind}
 
 -- numbers that stand before what is still to be read
 abbrev pub before : List ℕ → Said → Said

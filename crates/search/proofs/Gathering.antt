@@ -11,7 +11,7 @@ use Rattle.curves.specs.declared.Stage.{Stage}
 use Rattle.curves.specs.Held.{Holds}
 use Rattle.tandem.specs.declared.Server.{Server}
 use Rattle.tree.specs.Amounts.{sum_of}
-use Rattle.tree.specs.PruneLaws.{latencies_of}
+use Rattle.tree.proofs.PruneLaws.{latencies_of}
 use Rattle.keys.specs.Left.{row_curve}
 
 -- a server's stage

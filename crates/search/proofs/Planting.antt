@@ -7,7 +7,7 @@ use Prim.Native.Nat.{ℕ, ◌+◌, ◌*◌, ◌≤◌, ◌<◌}
 use native.Mathlib.Omega.{arith}
 use lib.ListN.{length, get_or, set, length-set}
 use lib.Seq.{get_or-set_same, get_or-set_other}
-use Rattle.ground.specs.OrderLaws.{le_or_lt}
+use Rattle.ground.proofs.OrderLaws.{le_or_lt}
 use Rattle.tandem.specs.declared.Flow.{Flow}
 use Rattle.tandem.specs.Lent.{lent_flow}
 

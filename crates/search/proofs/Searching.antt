@@ -18,30 +18,30 @@ use Rattle.tandem.specs.declared.Flow.{Flow}
 use Rattle.row.specs.declared.Row.{Row}
 use Rattle.tandem.specs.OfSheet.{listed}
 use Rattle.row.specs.RowFor.{padded}
-use Rattle.tandem.specs.OfSheetLaws.{listed_at}
+use Rattle.tandem.proofs.OfSheetLaws.{listed_at}
 use Rattle.tree.specs.Plan.{Node, plan}
 use Rattle.tree.specs.Planned.{answer_of}
 use Rattle.tree.specs.Fine.{AllFine}
 use Rattle.tree.specs.Amounts.{sum_of}
-use Rattle.tree.specs.PruneLaws.{latencies_of}
+use Rattle.tree.proofs.PruneLaws.{latencies_of}
 use Rattle.tree.specs.Ordered.{Placed, Ordered, Workable}
-use Rattle.tree.specs.NodeLaws.{plan_length}
+use Rattle.tree.proofs.NodeLaws.{plan_length}
 use Rattle.tree.specs.Grid.{Answer, found_of}
 use Rattle.ground.specs.Each.{Each}
-use Rattle.ground.specs.EachLaws.{each_append, each_map}
-use Rattle.tree.specs.GridLaws.{zeros_below, quick_is}
+use Rattle.ground.proofs.EachLaws.{each_append, each_map}
+use Rattle.tree.proofs.GridLaws.{zeros_below, quick_is}
 use Rattle.keys.specs.Keys.{least_of}
 use Rattle.keys.specs.Numbers.{point_at, first_digits}
-use Rattle.keys.specs.NumberLaws.{first_digits_stand}
+use Rattle.keys.proofs.NumberLaws.{first_digits_stand}
 use Rattle.keys.specs.Choose.{keys_under}
 use Rattle.keys.specs.Left.{row_curve, left_of, bursts_on}
 use Rattle.keys.specs.State.{State, state, climb, whole, want_of, Moving, Small}
-use Rattle.keys.specs.StateLaws.{rates_left}
-use Rattle.keys.specs.FoundLaws.{found_by_least, found_first}
-use Rattle.keys.specs.UseLaws.{point_length, point_zero, point_fine, small_row}
+use Rattle.keys.proofs.StateLaws.{rates_left}
+use Rattle.keys.proofs.FoundLaws.{found_by_least, found_first}
+use Rattle.keys.proofs.UseLaws.{point_length, point_zero, point_fine, small_row}
 use Rattle.grid.specs.declared.Steps.{Steps}
 use Rattle.grid.specs.Steps.{step_at, steps_in, digits_of}
-use Rattle.grid.specs.StepsLaws.{steps_le, digits_held, values_low, second_step}
+use Rattle.grid.proofs.StepsLaws.{steps_le, digits_held, values_low, second_step}
 use Rattle.tandem.specs.Lent.{lent_flow, flows_in}
 use Rattle.climb.specs.declared.Branch.{Branch}
 use Rattle.climb.specs.Branch.{state_of, watched_in, groups_in}
@@ -51,7 +51,7 @@ use Rattle.point.specs.Point.{servers_of, flows_of, answer_at, extras_of, point_
 use Rattle.search.specs.declared.Found.{Found}
 use Rattle.search.specs.Point.{searched}
 use Rattle.search.specs.Searchable.{start_of, Searchable, found_in}
-use Rattle.tandem.specs.LentLaws.{listed_take}
+use Rattle.tandem.proofs.LentLaws.{listed_take}
 
 take_zeros : (n m : ℕ) → n ≤ m → take {A = ℕ} n (replicate m 0) ≡ replicate n 0
 take_zeros zero m p = refl

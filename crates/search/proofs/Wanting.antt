@@ -10,11 +10,11 @@ use native.Mathlib.Omega.{arith}
 use lib.ListN.{length, get_or, drop, set, replicate, get_or-replicate, drop_of_length-le, get_or-eq_default}
 use Rattle.tandem.specs.Sums.{weigh}
 use Rattle.tandem.specs.declared.Flow.{Flow}
-use Rattle.ground.specs.OrderLaws.{le_or_lt}
+use Rattle.ground.proofs.OrderLaws.{le_or_lt}
 use Rattle.curves.specs.Part.{changed}
-use Rattle.curves.specs.PartLaws.{changed_inside, changed_outside, changed_length, changed_more}
+use Rattle.curves.proofs.PartLaws.{changed_inside, changed_outside, changed_length, changed_more}
 use Rattle.keys.specs.Left.{passes, bursts_on}
-use Rattle.keys.specs.ServerLaws.{passes_cases}
+use Rattle.keys.proofs.ServerLaws.{passes_cases}
 
 -- the numbers from place a up to before place b, raised
 abbrev pub raised : ℕ → ℕ → ℕ → List ℕ → List ℕ

@@ -6,7 +6,7 @@ use Rattle.row.specs.declared.Row.{Row}
 use Rattle.row.specs.RowFor.{padded}
 use Rattle.ground.specs.Each.{Each}
 use Rattle.tree.specs.Amounts.{sum_of}
-use Rattle.tree.specs.PruneLaws.{latencies_of}
+use Rattle.tree.proofs.PruneLaws.{latencies_of}
 use Rattle.tree.specs.Grid.{Answer}
 use Rattle.tree.specs.Ordered.{Workable}
 use Rattle.point.specs.Point.{servers_of, flows_of, answer_at, Shaped}

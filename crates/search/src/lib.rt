@@ -7,7 +7,7 @@ ghost use Rattle.std.specs.Prelude.{◌≡◌, ℕ, ◌+◌, ◌-◌, ◌≤◌,
 ghost use Rattle.tandem.specs.Tandem.{no_flow};
 ghost use Rattle.curves.specs.Held.{Holds};
 ghost use Rattle.tree.specs.Amounts.{sum_of};
-ghost use Rattle.tree.specs.PruneLaws.{latencies_of};
+ghost use Rattle.tree.proofs.PruneLaws.{latencies_of};
 ghost use Rattle.ground.specs.Each.{Each};
 ghost use Rattle.curves.specs.Part.{changed};
 ghost use Rattle.keys.specs.Left.{row_curve, bursts_on};

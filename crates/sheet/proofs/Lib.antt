@@ -1,3 +1,17 @@
+pub mod Unique
+pub mod EntryLaws
+pub mod WalkLaws
+pub mod EncodeLaws
+pub mod ValidLaws
+pub mod OutsideLaws
+pub mod TripLaws
+pub mod WordLaws
+pub mod AcceptLaws
+pub mod SizeLaws
+pub mod FrontLaws
+pub mod Figures
+pub mod RoomLaws
+pub mod DetailLaws
 pub mod Walking
 pub mod Reading
 pub mod Writing

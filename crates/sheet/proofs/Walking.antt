@@ -7,7 +7,7 @@ use mathlib.Core.Logic.{⊎_elim}
 use mathlib.Core.List.{List, [], ◌∷◌, ◌++◌, append_assoc, append-nil}
 use mathlib.Core.Bool.{Bool, true, false}
 use native.Mathlib.Omega.{arith}
-use Rattle.ground.specs.OrderLaws.{lt_or_ge}
+use Rattle.ground.proofs.OrderLaws.{lt_or_ge}
 use Rattle.numbers.specs.declared.Got.{Got}
 use Rattle.fields.specs.declared.User.{User}
 use Rattle.fields.specs.declared.Cursor.{Cursor}
@@ -18,9 +18,9 @@ use Rattle.fields.specs.Rule.{most, Seen, nothing, rule_at, seen_after}
 use Rattle.fields.specs.Cursor.{cursor_at, cursor_after}
 use Rattle.fields.specs.Step.{step_on}
 use Rattle.sheet.specs.Sheet.{Found, fail, these, also, walk}
-use Rattle.fields.specs.StepLaws.{Gave, step_gave}
-use Rattle.fields.specs.PlaceLaws.{Small, past_late, small_after}
-use Rattle.fields.specs.CursorLaws.{cursor_after_lem}
+use Rattle.fields.proofs.StepLaws.{Gave, step_gave}
+use Rattle.fields.proofs.PlaceLaws.{Small, past_late, small_after}
+use Rattle.fields.proofs.CursorLaws.{cursor_after_lem}
 
 -- the numbers passed stand before those that follow
 abbrev pub before : List ℕ → Found → Found

@@ -10,7 +10,7 @@ use lib.ListN.{length, get_or, take, drop, set, length-append, drop_of_length-le
 use lib.Seq.{sets, length-sets, sets-eq, take-suc, take_all}
 use borrow.Author.Tests.{lt-ltb, le-ltb}
 use Rattle.numbers.specs.Seven.{encode}
-use Rattle.numbers.specs.SevenLaws.{encode_few}
+use Rattle.numbers.proofs.SevenLaws.{encode_few}
 use Rattle.fields.specs.declared.User.TheVariants.{Writer}
 use Rattle.fields.specs.declared.Rule.{Rule}
 use Rattle.fields.specs.declared.Cursor.{Cursor}
@@ -25,10 +25,10 @@ use Rattle.fields.specs.Step.{step_on}
 use Rattle.sheet.specs.Sheet.{Found, fail, these, entry_at, list_of, encode_all, write_gives, write_holds}
 use Rattle.sheet.specs.Inside.{checked}
 use Rattle.sheet.specs.Contract.{WriteSheet}
-use Rattle.fields.specs.StepLaws.{Gave, step_gave}
-use Rattle.sheet.specs.EntryLaws.{Entry, entry_was}
-use Rattle.sheet.specs.EncodeLaws.{encode_next, length_next}
-use Rattle.sheet.specs.WalkLaws.{list_whole}
+use Rattle.fields.proofs.StepLaws.{Gave, step_gave}
+use Rattle.sheet.proofs.EntryLaws.{Entry, entry_was}
+use Rattle.sheet.proofs.EncodeLaws.{encode_next, length_next}
+use Rattle.sheet.proofs.WalkLaws.{list_whole}
 use Rattle.sheet.proofs.Walking.{Walking, begin, turn, finished}
 
 -- the check: the numbers passed are the front of the list, and their bytes are counted

@@ -7,14 +7,14 @@ use native.Mathlib.Numerals.{add-one}
 use native.Mathlib.Omega.{arith}
 use lib.ListN.{length, take, length-append}
 use lib.Seq.{sets, length-sets}
-use Rattle.ground.specs.BufferLaws.{sets_append, stored_front}
+use Rattle.ground.proofs.BufferLaws.{sets_append, stored_front}
 use Rattle.sheet.specs.Sheet.{sheet_of}
 use Rattle.text.specs.declared.Printed.{Printed}
 use Rattle.text.specs.Lines.{bytes_of}
 use Rattle.text.specs.Contract.{Put, HandOver}
-use Rattle.text.specs.PutLaws.{put_long}
+use Rattle.text.proofs.PutLaws.{put_long}
 use Rattle.showing.specs.Shown.{number_line, lines_from, shown, show_text, show_printed, sheet_page}
-use Rattle.showing.specs.ShownLaws.{show_short, show_bytes}
+use Rattle.showing.proofs.ShownLaws.{show_short, show_bytes}
 use Rattle.showing.specs.Contract.{Show}
 
 pub record Lining (xs first page : List ℕ) (at i : ℕ) : Type 0 where

@@ -1,6 +1,2 @@
 pub mod Shown
 pub mod Contract
-pub mod ShownLaws
-pub mod ReadLaws
-pub mod Unique
-pub mod Figures

@@ -12,9 +12,9 @@ use Rattle.sheet.specs.Valid.{server_count}
 use Rattle.tandem.specs.declared.Server.{Server}
 use Rattle.tandem.specs.declared.Flow.{Flow}
 use Rattle.tandem.specs.OfSheet.{server_of, tandem_of}
-use Rattle.tandem.specs.OfSheetLaws.{listed_at}
+use Rattle.tandem.proofs.OfSheetLaws.{listed_at}
 use Rattle.tandem.specs.Lent.{spread_servers, spread_flows}
-use Rattle.tandem.specs.LentLaws.{spread_servers_length, spread_flows_length, spread_servers_more, spread_flows_more, store_more}
+use Rattle.tandem.proofs.LentLaws.{spread_servers_length, spread_flows_length, spread_servers_more, spread_flows_more, store_more}
 
 -- the numbers p stand at the front of the list l, and behind them what stood in the list e
 pub record Front (p e l : List ℕ) : Type 0 where

@@ -1,2 +1,10 @@
+pub mod TestLaws
+pub mod SumLaws
+pub mod TandemLaws
+pub mod CrowdedLaws
+pub mod OfSheetLaws
+pub mod LentLaws
+pub mod Unique
+pub mod Figures
 pub mod Loading
 pub mod Fronts

@@ -18,10 +18,10 @@ use Rattle.tandem.specs.Sums.{weigh, total}
 use Rattle.tandem.specs.Tandem.{Tandem, flow, crosses, rates}
 use Rattle.tandem.specs.Crowded.{crowded, lowest_crowded}
 use Rattle.tandem.specs.OfSheet.{server_of, tandem_of}
-use Rattle.tandem.specs.OfSheetLaws.{row_flows, row_server, ranged}
+use Rattle.tandem.proofs.OfSheetLaws.{row_flows, row_server, ranged}
 use Rattle.tandem.specs.Ranges.{Ranged}
-use Rattle.tandem.specs.TestLaws.{not_passed, both_true, same_test}
-use Rattle.tandem.specs.SumLaws.{total_most, weigh_most}
+use Rattle.tandem.proofs.TestLaws.{not_passed, both_true, same_test}
+use Rattle.tandem.proofs.SumLaws.{total_most, weigh_most}
 use Rattle.tandem.specs.Loads.{Roomy, Added, Loaded}
 
 -- a path without the server adds nothing there

@@ -5,13 +5,5 @@ pub mod Sound
 pub mod Ranges
 pub mod OfSheet
 pub mod Loads
-pub mod TestLaws
-pub mod SumLaws
-pub mod TandemLaws
-pub mod CrowdedLaws
-pub mod OfSheetLaws
 pub mod Lent
-pub mod LentLaws
 pub mod Contract
-pub mod Unique
-pub mod Figures

@@ -1,1 +1,6 @@
+pub mod DecimalLaws
+pub mod LinesLaws
+pub mod PutLaws
+pub mod Unique
+pub mod Figures
 pub mod Putting

@@ -8,9 +8,9 @@ use native.Mathlib.Numerals.{add-one}
 use native.Mathlib.Omega.{arith}
 use lib.ListN.{length, get_or, set, drop, length-set, length-append, drop_of_length-le}
 use lib.Seq.{sets, set_comm, drop-cons}
-use Rattle.ground.specs.BaseLaws.{below_power}
+use Rattle.ground.proofs.BaseLaws.{below_power}
 use Rattle.text.specs.Decimal.{digits, decimal}
-use Rattle.text.specs.DecimalLaws.{digits_last, digits_more, digits_some}
+use Rattle.text.proofs.DecimalLaws.{digits_last, digits_more, digits_some}
 
 -- a store behind others can come before them
 pub sets_last : (l : List ℕ) (i : ℕ) (vs : List ℕ) (v : ℕ) → sets l i (vs ++ (v ∷ [])) ≡ sets (set l (i + length vs) v) i vs

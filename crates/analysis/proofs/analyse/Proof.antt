@@ -5,7 +5,7 @@ use mathlib.Core.Path.{refl, sym, ◌∙◌}
 use native.Mathlib.Omega.{arith}
 use lib.Seq.{length-take-le}
 use Rattle.analysis.specs.Held.{analysed_of}
-use Rattle.sheet.specs.RoomLaws.{Numbers, numbers_read, refused_read}
+use Rattle.sheet.proofs.RoomLaws.{Numbers, numbers_read, refused_read}
 use borrow.Author.Rules.{rules}
 use Rattle.analysis.proofs.analyse.Statement.{statement}
 use Rattle.analysis.proofs.analyse.Tie as tie

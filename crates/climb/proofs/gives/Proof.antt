@@ -5,7 +5,7 @@ use Prim.Native.Nat.{◌-◌, ◌≤◌, ◌<◌, ◌^◌}
 use native.Mathlib.Omega.{arith}
 use lib.ListN.{length, get_or, length-map}
 use lib.Seq.{slice}
-use Rattle.ground.specs.EachLaws.{each_within}
+use Rattle.ground.proofs.EachLaws.{each_within}
 use Rattle.curves.specs.Curve.{line}
 use Rattle.curves.specs.Held.{shape_of, blank}
 use Rattle.keys.specs.State.{gives}

@@ -7,7 +7,7 @@ use native.Mathlib.Numerals.{add-one}
 use native.Mathlib.Omega.{arith}
 use lib.ListN.{length}
 use Rattle.curves.specs.Part.{changed}
-use Rattle.curves.specs.PartLaws.{changed_outside, changed_length, changed_more, changed_none}
+use Rattle.curves.proofs.PartLaws.{changed_outside, changed_length, changed_more, changed_none}
 use Rattle.climb.proofs.lowered.Statement.{statement}
 use Rattle.climb.proofs.lowered.Tie as tie
 

@@ -6,7 +6,7 @@ use native.Mathlib.Omega.{arith}
 use lib.ListN.{length}
 use lib.Seq.{length-take-le}
 use Rattle.text.specs.Lines.{bytes_of}
-use Rattle.composing.specs.ComposedLaws.{compose_fits}
+use Rattle.composing.proofs.ComposedLaws.{compose_fits}
 use borrow.Author.Rules.{rules}
 use Rattle.compose.proofs.main.Statement.{statement}
 use Rattle.compose.proofs.main.Tie as tie

@@ -1,7 +1,7 @@
 -- `composing::put_complaint` meets its contract: what is wrong is put behind the place.
 -- Assumes nothing.
 use native.Mathlib.Omega.{arith}
-use Rattle.text.specs.PutLaws.{put_then, room_behind}
+use Rattle.text.proofs.PutLaws.{put_then, room_behind}
 use Rattle.composing.proofs.Complaining.{complaint_parts, complaint_length}
 use borrow.Author.Rules.{rules}
 use Rattle.composing.proofs.put_complaint.Statement.{statement}

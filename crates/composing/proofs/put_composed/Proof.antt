@@ -6,7 +6,7 @@ use lib.ListN.{length}
 use lib.Seq.{length-take-le}
 use Rattle.text.specs.declared.Printed.TheVariants.{Refusal}
 use Rattle.composing.specs.Composed.{slip_line, Composed, wrong, composed, composed_bytes}
-use Rattle.composing.specs.ComposedLaws.{composed_short}
+use Rattle.composing.proofs.ComposedLaws.{composed_short}
 use Rattle.composing.proofs.Making.{too_long, Numbers, numbers_said, slip_said}
 use borrow.Author.Rules.{rules}
 use Rattle.composing.proofs.put_composed.Statement.{statement}

@@ -4,7 +4,7 @@ use Prim.Native.Nat.{ℕ, ◌+◌, ◌≤◌}
 use mathlib.Core.Path.{◌≡◌, ap}
 use native.Mathlib.Omega.{arith}
 use lib.ListN.{length}
-use Rattle.text.specs.PutLaws.{put_then, room_behind}
+use Rattle.text.proofs.PutLaws.{put_then, room_behind}
 use Rattle.naming.specs.Names.{extent_in, name_at}
 use Rattle.composing.specs.Composed.{open_word, fault_end}
 use Rattle.composing.proofs.Complaining.{fault_left, fault_named, named_length}

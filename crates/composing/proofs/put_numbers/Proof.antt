@@ -4,9 +4,9 @@ use mathlib.Core.Path.{◌≡◌, ap, ◌∙◌}
 use native.Mathlib.Omega.{arith}
 use lib.ListN.{length}
 use Rattle.sheet.specs.Sheet.{fail, list_of}
-use Rattle.sheet.specs.DetailLaws.{list_place}
+use Rattle.sheet.proofs.DetailLaws.{list_place}
 use Rattle.text.specs.declared.Printed.TheVariants.{Refusal}
-use Rattle.composing.specs.ComposedLaws.{complaint_short}
+use Rattle.composing.proofs.ComposedLaws.{complaint_short}
 use Rattle.composing.proofs.Making.{written, refusing, by_refusal}
 use borrow.Author.Rules.{rules}
 use Rattle.composing.proofs.put_numbers.Statement.{statement}

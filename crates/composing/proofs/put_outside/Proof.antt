@@ -5,9 +5,9 @@ use mathlib.Core.Path.{◌≡◌, ap, ◌∙◌}
 use native.Mathlib.Omega.{arith}
 use lib.ListN.{length, get_or}
 use Rattle.text.specs.Lines.{line_end, field}
-use Rattle.text.specs.PutLaws.{put_then, room_behind}
+use Rattle.text.proofs.PutLaws.{put_then, room_behind}
 use Rattle.composing.specs.Composed.{is_word, outside_text, outside_line}
-use Rattle.composing.specs.ComposedLaws.{outside_length}
+use Rattle.composing.proofs.ComposedLaws.{outside_length}
 use Rattle.composing.proofs.Complaining.{range_said}
 use borrow.Author.Rules.{rules}
 use Rattle.composing.proofs.put_outside.Statement.{statement}

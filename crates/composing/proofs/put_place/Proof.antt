@@ -4,7 +4,7 @@ use mathlib.Core.Path.{ap}
 use native.Mathlib.Omega.{arith}
 use lib.ListN.{length, length-append}
 use Rattle.text.specs.Lines.{field}
-use Rattle.text.specs.PutLaws.{put_then, room_behind}
+use Rattle.text.proofs.PutLaws.{put_then, room_behind}
 use Rattle.composing.specs.Composed.{line_word, place_word}
 use Rattle.composing.proofs.Complaining.{place_lined, place_alone}
 use borrow.Author.Rules.{rules}

@@ -1,8 +1,8 @@
 -- `composing::put_slip` meets its contract: the words of the slip are put behind the line.
 -- Assumes nothing.
 use native.Mathlib.Omega.{arith}
-use Rattle.text.specs.PutLaws.{put_then, room_behind}
-use Rattle.composing.specs.ComposedLaws.{slip_length}
+use Rattle.text.proofs.PutLaws.{put_then, room_behind}
+use Rattle.composing.proofs.ComposedLaws.{slip_length}
 use Rattle.composing.proofs.Complaining.{slip_parts, slip_rest}
 use borrow.Author.Rules.{rules}
 use Rattle.composing.proofs.put_slip.Statement.{statement}

@@ -6,7 +6,7 @@ use native.Mathlib.Omega.{arith}
 use lib.ListN.{length-take}
 use lib.Seq.{length-take-le}
 use Rattle.analysis.specs.Verdict.{record_numbers}
-use Rattle.sheet.specs.DetailLaws.{gives_detail, encode_all_few}
+use Rattle.sheet.proofs.DetailLaws.{gives_detail, encode_all_few}
 use Rattle.desk.proofs.Answering.{Answers, answers, Turned, turned}
 use borrow.Author.Rules.{rules}
 use Rattle.desk.proofs.gullbiscuit_analyse.Statement.{statement}

@@ -3,7 +3,7 @@
 use mathlib.Core.Path.{ap, ◌∙◌}
 use native.Mathlib.Omega.{arith}
 use Rattle.desk.specs.Packed.{packed}
-use Rattle.sheet.specs.DetailLaws.{read_detail_small}
+use Rattle.sheet.proofs.DetailLaws.{read_detail_small}
 use borrow.Author.Rules.{rules}
 use Rattle.desk.proofs.gullbiscuit_read_sheet.Statement.{statement}
 use Rattle.desk.proofs.gullbiscuit_read_sheet.Tie as tie

@@ -2,7 +2,7 @@
 -- Assumes nothing.
 use mathlib.Core.Path.{ap, ◌∙◌}
 use Rattle.desk.specs.Packed.{packed}
-use Rattle.sheet.specs.DetailLaws.{write_detail_small}
+use Rattle.sheet.proofs.DetailLaws.{write_detail_small}
 use borrow.Author.Rules.{rules}
 use Rattle.desk.proofs.gullbiscuit_write_sheet.Statement.{statement}
 use Rattle.desk.proofs.gullbiscuit_write_sheet.Tie as tie

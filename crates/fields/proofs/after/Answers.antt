@@ -3,7 +3,7 @@
 use Prim.Native.Nat.{◌≤◌}
 use mathlib.Core.Path.{sym, ◌∙◌}
 use native.Mathlib.Omega.{arith}
-use Rattle.fields.specs.CursorLaws.{cursor_behind}
+use Rattle.fields.proofs.CursorLaws.{cursor_behind}
 use Rattle.fields.proofs.Moving.{from_field, next_server, last_server, first_flow, no_flow, next_flow, last_flow, none_of_four}
 use Rattle.fields.proofs.after.Goals as goal
 

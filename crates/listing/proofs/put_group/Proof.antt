@@ -3,8 +3,8 @@
 use native.Mathlib.Omega.{arith}
 use Rattle.listing.specs.Text.{group_word, blank, wait_word, group_line}
 use Rattle.text.specs.Lines.{field, line}
-use Rattle.text.specs.PutLaws.{put_long}
-use Rattle.listing.specs.TextLaws.{group_length}
+use Rattle.text.proofs.PutLaws.{put_long}
+use Rattle.listing.proofs.TextLaws.{group_length}
 use Rattle.listing.proofs.Putting.{put_three}
 use borrow.Author.Rules.{rules}
 use Rattle.listing.proofs.put_group.Statement.{statement}

@@ -6,8 +6,8 @@ use lib.ListN.{length}
 use Rattle.analysis.specs.declared.Analysed.{Analysed}
 use Rattle.listing.specs.Text.{bound_word, start_word, grid_word, figure_lines}
 use Rattle.text.specs.Lines.{line}
-use Rattle.text.specs.PutLaws.{room_behind}
-use Rattle.listing.specs.TextLaws.{figures_length}
+use Rattle.text.proofs.PutLaws.{room_behind}
+use Rattle.listing.proofs.TextLaws.{figures_length}
 use Rattle.listing.specs.Held.{groups_held}
 use Rattle.listing.proofs.Putting.{put_four}
 use borrow.Author.Rules.{rules}

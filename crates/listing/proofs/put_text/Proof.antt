@@ -7,7 +7,7 @@ use Rattle.fields.specs.Refusal.{refusal}
 use Rattle.text.specs.Lines.{refusal_line}
 use Rattle.text.specs.declared.Printed.TheVariants.{Answer, Refusal}
 use Rattle.listing.specs.Held.{listing_held, text_held, printed_held}
-use Rattle.listing.specs.HeldLaws.{held_listing, held_refusal}
+use Rattle.listing.proofs.HeldLaws.{held_listing, held_refusal}
 use borrow.Author.Rules.{rules}
 use Rattle.listing.proofs.put_text.Statement.{statement}
 use Rattle.listing.proofs.put_text.Tie as tie

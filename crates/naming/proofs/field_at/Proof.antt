@@ -4,7 +4,7 @@ use mathlib.Core.Path.{◌≡◌, sym}
 use native.Mathlib.Omega.{arith}
 use Rattle.fields.specs.Rule.{per_server, server_at, flow_at}
 use Rattle.naming.specs.declared.Extent.{Extent}
-use Rattle.naming.specs.NamesLaws.{field_head, field_server, field_count, field_flow, field_rest}
+use Rattle.naming.proofs.NamesLaws.{field_head, field_server, field_count, field_flow, field_rest}
 use borrow.Author.Rules.{rules}
 use Rattle.naming.proofs.field_at.Statement.{statement}
 use Rattle.naming.proofs.field_at.Tie as tie

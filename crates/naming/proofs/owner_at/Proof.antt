@@ -4,7 +4,7 @@ use mathlib.Core.Path.{◌≡◌, sym, ◌∙◌}
 use native.Mathlib.Omega.{arith}
 use Rattle.fields.specs.Rule.{per_server, server_at, flow_at}
 use Rattle.naming.specs.declared.Extent.{Extent}
-use Rattle.naming.specs.NamesLaws.{owner_server, owner_flow}
+use Rattle.naming.proofs.NamesLaws.{owner_server, owner_flow}
 use borrow.Author.Rules.{rules}
 use Rattle.naming.proofs.owner_at.Statement.{statement}
 use Rattle.naming.proofs.owner_at.Tie as tie

@@ -2,9 +2,9 @@
 -- Assumes nothing.
 use native.Mathlib.Omega.{arith}
 use Rattle.text.specs.Lines.{field}
-use Rattle.text.specs.PutLaws.{put_then, put_long}
+use Rattle.text.proofs.PutLaws.{put_then, put_long}
 use Rattle.naming.specs.Names.{up_to_word, ends_of}
-use Rattle.naming.specs.NamesLaws.{ends_length}
+use Rattle.naming.proofs.NamesLaws.{ends_length}
 use borrow.Author.Rules.{rules}
 use Rattle.naming.proofs.put_ends.Statement.{statement}
 use Rattle.naming.proofs.put_ends.Tie as tie

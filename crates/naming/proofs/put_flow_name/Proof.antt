@@ -2,7 +2,7 @@
 -- Assumes nothing.
 use mathlib.Core.Path.{◌≡◌}
 use native.Mathlib.Omega.{arith}
-use Rattle.naming.specs.NamesLaws.{name_at_lem}
+use Rattle.naming.proofs.NamesLaws.{name_at_lem}
 use borrow.Author.Rules.{rules}
 use Rattle.naming.proofs.put_flow_name.Statement.{statement}
 use Rattle.naming.proofs.put_flow_name.Tie as tie

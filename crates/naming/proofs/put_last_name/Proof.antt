@@ -1,9 +1,9 @@
 -- `naming::put_last_name` meets its contract: its arms are the last entries of `names`, in the same order.
 -- Assumes nothing.
 use Prim.Native.Nat.{◌≤◌}
-use Rattle.text.specs.PutLaws.{put_none}
+use Rattle.text.proofs.PutLaws.{put_none}
 use native.Mathlib.Omega.{arith}
-use Rattle.naming.specs.NamesLaws.{name_at_lem, name_behind}
+use Rattle.naming.proofs.NamesLaws.{name_at_lem, name_behind}
 use borrow.Author.Rules.{rules}
 use Rattle.naming.proofs.put_last_name.Statement.{statement}
 use Rattle.naming.proofs.put_last_name.Tie as tie

@@ -1,6 +1,6 @@
 -- `naming::put_name` meets its contract: each part of the table has its function.
 -- Assumes nothing.
-use Rattle.naming.specs.NamesLaws.{last_name}
+use Rattle.naming.proofs.NamesLaws.{last_name}
 use borrow.Author.Rules.{rules}
 use Rattle.naming.proofs.put_name.Statement.{statement}
 use Rattle.naming.proofs.put_name.Tie as tie

@@ -1,7 +1,7 @@
 -- `naming::put_range` meets its contract: in each case of the rule its two ends are put behind the words of that case.
 -- Assumes nothing.
-use Rattle.text.specs.PutLaws.{put_none}
-use Rattle.naming.specs.NamesLaws.{of_range, of_path, of_zero_or, of_past}
+use Rattle.text.proofs.PutLaws.{put_none}
+use Rattle.naming.proofs.NamesLaws.{of_range, of_path, of_zero_or, of_past}
 use borrow.Author.Rules.{rules}
 use Rattle.naming.proofs.put_range.Statement.{statement}
 use Rattle.naming.proofs.put_range.Tie as tie

@@ -5,7 +5,7 @@ use mathlib.Core.Path.{◌≡◌}
 use native.Mathlib.Omega.{arith}
 use lib.ListN.{length}
 use Rattle.numbers.specs.Seven.{encode}
-use Rattle.numbers.specs.SevenLaws.{encode_most, encode_least, encode_some}
+use Rattle.numbers.proofs.SevenLaws.{encode_most, encode_least, encode_some}
 use Rattle.numbers.proofs.width.Goals as goal
 
 between : (k x : ℕ) → k ≤ 4 → 128 ^ k ≤ x → x < 128 ^ suc k → suc k ≡ length (encode x)

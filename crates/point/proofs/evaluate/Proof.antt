@@ -10,14 +10,14 @@ use lib.Seq.{length-take-le, get_or-take}
 use Rattle.tandem.specs.Tandem.{no_flow, no_server}
 use Rattle.curves.specs.Curve.{Shape, neutral, least_wait, delay}
 use Rattle.curves.specs.Held.{held, Holds}
-use Rattle.curves.specs.HeldLaws.{holds_in_range, holds_leaving, holds_joined, holds_remainder, holds_wait, holds_delay, holds_server, holds_long}
+use Rattle.curves.proofs.HeldLaws.{holds_in_range, holds_leaving, holds_joined, holds_remainder, holds_wait, holds_delay, holds_server, holds_long}
 use Rattle.tandem.specs.declared.Server.{Server}
 use Rattle.tandem.specs.declared.Flow.{Flow}
 use Rattle.row.specs.declared.Row.{Row}
 use Rattle.tree.specs.Plan.{Top, alone, node_of}
 use Rattle.tree.specs.Fine.{Fine}
 use Rattle.tree.specs.Ordered.{Placed}
-use Rattle.tree.specs.NodeLaws.{curve_at, node_at, extra_at, fine_at}
+use Rattle.tree.proofs.NodeLaws.{curve_at, node_at, extra_at, fine_at}
 use Rattle.point.specs.Point.{servers_of, flows_of, extras_of}
 use Rattle.point.proofs.Walks.{Walking, walk_begins, walk_ends, walk_room, walk_room_over, walk_turn, walk_turn_over}
 use Rattle.point.proofs.Nodes.{no_curve, top_at, Upto, Group, mark_none, mark_some, upto_none, upto_next, upto_root}

@@ -6,7 +6,7 @@ use native.Mathlib.Omega.{arith}
 use lib.ListN.{length}
 use lib.Seq.{length-take-le}
 use Rattle.text.specs.Lines.{bytes_of}
-use Rattle.listing.specs.HeldLaws.{report_fits}
+use Rattle.listing.proofs.HeldLaws.{report_fits}
 use borrow.Author.Rules.{rules}
 use Rattle.report.proofs.main.Statement.{statement}
 use Rattle.report.proofs.main.Tie as tie

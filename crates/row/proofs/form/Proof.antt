@@ -3,7 +3,7 @@
 use mathlib.Core.Path.{sym, ◌∙◌}
 use borrow.Author.Rules.{rules}
 use Rattle.tandem.specs.Lent.{tandem_in}
-use Rattle.tandem.specs.LentLaws.{laid_most}
+use Rattle.tandem.proofs.LentLaws.{laid_most}
 use Rattle.row.proofs.Answers.{nested_alone, formed_crossing}
 use Rattle.row.proofs.form.Statement.{statement}
 use Rattle.row.proofs.form.Tie as tie

@@ -8,9 +8,9 @@ use native.Mathlib.Omega.{arith}
 use lib.ListN.{length, get_or}
 use borrow.Author.Rules.{rules}
 use Rattle.tandem.specs.Tandem.{Tandem, size, on, bursts, rates}
-use Rattle.tandem.specs.OfSheetLaws.{length_listed}
+use Rattle.tandem.proofs.OfSheetLaws.{length_listed}
 use Rattle.tandem.specs.Lent.{server_in, tandem_in}
-use Rattle.tandem.specs.LentLaws.{flow_held, laid_most}
+use Rattle.tandem.proofs.LentLaws.{flow_held, laid_most}
 use Rattle.row.specs.Groups.{path}
 use Rattle.row.specs.Parts.{reach_of, grouped_for}
 use Rattle.row.proofs.Answers.{lists_few}

@@ -10,7 +10,7 @@ use lib.ListN.{get_or}
 use borrow.Author.Tests.{lt-ltb, le-ltb}
 use borrow.Author.Rules.{rules}
 use Rattle.tandem.specs.Sums.{any}
-use Rattle.tandem.specs.SumLaws.{any_at}
+use Rattle.tandem.proofs.SumLaws.{any_at}
 use Rattle.row.proofs.Checking.{any_none, any_more}
 use Rattle.row.proofs.is_crossed.Statement.{statement}
 use Rattle.row.proofs.is_crossed.Tie as tie

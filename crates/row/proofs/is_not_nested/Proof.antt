@@ -7,9 +7,9 @@ use Prim.Native.Nat.{ℕ, ◌≤◌, ◌-◌}
 use native.Mathlib.Omega.{arith}
 use borrow.Author.Rules.{rules}
 use Rattle.tandem.specs.Sums.{any}
-use Rattle.tandem.specs.SumLaws.{any_at}
+use Rattle.tandem.proofs.SumLaws.{any_at}
 use Rattle.tandem.specs.Lent.{alone, Wide}
-use Rattle.tandem.specs.LentLaws.{flow_held, count_held}
+use Rattle.tandem.proofs.LentLaws.{flow_held, count_held}
 use Rattle.row.specs.Checks.{not_nested}
 use Rattle.row.specs.Parts.{overreached}
 use Rattle.row.proofs.Checking.{any_none, any_more}

@@ -6,7 +6,7 @@ use Prim.Native.Nat.{ℕ, ◌≤◌, ◌-◌}
 use native.Mathlib.Omega.{arith}
 use borrow.Author.Rules.{rules}
 use Rattle.tandem.specs.Lent.{alone}
-use Rattle.tandem.specs.LentLaws.{flow_held}
+use Rattle.tandem.proofs.LentLaws.{flow_held}
 use Rattle.row.specs.Parts.{Reached}
 use Rattle.row.proofs.Reaching.{begin_reaches, turn_reaches}
 use Rattle.row.proofs.reaches_of.Statement.{statement}

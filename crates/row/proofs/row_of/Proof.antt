@@ -11,11 +11,11 @@ use Rattle.tandem.specs.Tandem.{Tandem, size}
 use Rattle.tandem.specs.Crowded.{lowest_crowded}
 use Rattle.tandem.specs.OfSheet.{tandem_of}
 use Rattle.tandem.specs.Lent.{tandem_in, Laid, Lent}
-use Rattle.tandem.specs.LentLaws.{laid_most, sheet_spread, sheet_room, sheet_laid, sheet_lent}
+use Rattle.tandem.proofs.LentLaws.{laid_most, sheet_spread, sheet_room, sheet_laid, sheet_lent}
 use Rattle.row.specs.Checks.{not_nested}
 use Rattle.row.specs.RowFor.{formed_for}
 use Rattle.row.specs.OfSheet.{grid_of}
-use Rattle.row.specs.OfSheetLaws.{formed_sheet, grid_range}
+use Rattle.row.proofs.OfSheetLaws.{formed_sheet, grid_range}
 use Rattle.row.proofs.Answers.{nested_alone, formed_crossing, formed_crowded}
 use Rattle.row.proofs.row_of.Statement.{statement}
 use Rattle.row.proofs.row_of.Tie as tie

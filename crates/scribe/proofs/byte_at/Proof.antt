@@ -3,7 +3,7 @@
 use borrow.Author.Rules.{rules}
 use lib.ListN.{get_or-eq_default}
 use mathlib.Core.Path.{sym}
-use Rattle.scribe.specs.TextLaws.{any_default}
+use Rattle.scribe.proofs.TextLaws.{any_default}
 use Rattle.scribe.proofs.byte_at.Statement.{statement}
 use Rattle.scribe.proofs.byte_at.Tie as tie
 

@@ -5,7 +5,7 @@ use mathlib.Core.Path.{sym, ◌∙◌}
 use native.Mathlib.Omega.{arith}
 use borrow.Author.Tests.{eq-eqb, ne_eqb}
 use Rattle.scribe.specs.Text.{outside_by}
-use Rattle.scribe.specs.TextLaws.{digit_range}
+use Rattle.scribe.proofs.TextLaws.{digit_range}
 use Rattle.scribe.proofs.outside.Statement.{statement}
 use Rattle.scribe.proofs.outside.Tie as tie
 use Rattle.scribe.proofs.is_blank.Reads as is-blank-reads

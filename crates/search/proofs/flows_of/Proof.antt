@@ -8,7 +8,7 @@ use lib.ListN.{length, get_or, length-map}
 use borrow.Author.Rules.{rules}
 use Rattle.tandem.specs.Tandem.{no_flow}
 use Rattle.tandem.specs.Lent.{lent_flow}
-use Rattle.tandem.specs.LentLaws.{listed_take}
+use Rattle.tandem.proofs.LentLaws.{listed_take}
 use Rattle.search.proofs.Planting.{plant_flow, length_planted}
 use Rattle.search.proofs.flows_of.Statement.{statement}
 use Rattle.search.proofs.flows_of.Tie as tie

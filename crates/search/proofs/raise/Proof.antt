@@ -6,7 +6,7 @@ use Prim.Native.Nat.{ℕ, ◌+◌, ◌≤◌, ◌-◌}
 use native.Mathlib.Omega.{arith}
 use borrow.Author.Rules.{rules}
 use lib.ListN.{length, get_or, set}
-use Rattle.curves.specs.PartLaws.{changed_length, changed_none}
+use Rattle.curves.proofs.PartLaws.{changed_length, changed_none}
 use Rattle.search.proofs.Wanting.{raised, raised_next}
 use Rattle.search.proofs.raise.Statement.{statement}
 use Rattle.search.proofs.raise.Tie as tie

@@ -12,7 +12,7 @@ use Rattle.tandem.specs.declared.Flow.{Flow}
 use Rattle.row.specs.declared.Row.{Row}
 use Rattle.tree.specs.Ordered.{Placed}
 use Rattle.point.specs.Point.{flows_of}
-use Rattle.ground.specs.EachLaws.{each_at}
+use Rattle.ground.proofs.EachLaws.{each_at}
 use Rattle.search.proofs.Wanting.{Wanting, wanting_begins, wanting_turns, wanting_ends}
 use Rattle.search.proofs.wants_of.Statement.{statement}
 use Rattle.search.proofs.wants_of.Tie as tie

@@ -6,7 +6,7 @@ use mathlib.Core.Path.{◌≡◌, sym, ◌∙◌}
 use native.Mathlib.Omega.{arith}
 use lib.ListN.{length}
 use borrow.Author.Rules.{rules}
-use Rattle.numbers.specs.SevenLaws.{encode_few}
+use Rattle.numbers.proofs.SevenLaws.{encode_few}
 use Rattle.fields.specs.declared.Step.TheVariants.{Value}
 use Rattle.fields.specs.Rule.{most}
 use Rattle.fields.specs.Step.{step_on}

@@ -5,7 +5,7 @@ use Prim.Native.Nat.{◌-◌}
 use native.Mathlib.Omega.{arith}
 use lib.ListN.{length, get_or}
 use borrow.Author.Rules.{rules}
-use Rattle.numbers.specs.SevenLaws.{encode_few}
+use Rattle.numbers.proofs.SevenLaws.{encode_few}
 use Rattle.sheet.proofs.Writing.{Counting, begin_counting, turn_counting, counted}
 use Rattle.sheet.proofs.list_width.Statement.{statement}
 use Rattle.sheet.proofs.list_width.Tie as tie

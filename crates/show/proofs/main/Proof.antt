@@ -6,7 +6,7 @@ use native.Mathlib.Omega.{arith}
 use lib.ListN.{length}
 use lib.Seq.{length-take-le}
 use Rattle.text.specs.Lines.{bytes_of}
-use Rattle.showing.specs.ShownLaws.{show_fits}
+use Rattle.showing.proofs.ShownLaws.{show_fits}
 use borrow.Author.Rules.{rules}
 use Rattle.show.proofs.main.Statement.{statement}
 use Rattle.show.proofs.main.Tie as tie

@@ -3,7 +3,7 @@
 -- Assumes nothing.
 use Prim.Native.Nat.{◌-◌}
 use lib.ListN.{length}
-use Rattle.sheet.specs.ValidLaws.{valid_length}
+use Rattle.sheet.proofs.ValidLaws.{valid_length}
 use Rattle.showing.proofs.Lining.{Lining, begin_lining, fits, turn_lining, lined}
 use borrow.Author.Rules.{rules}
 use Rattle.showing.proofs.put_lines.Statement.{statement}

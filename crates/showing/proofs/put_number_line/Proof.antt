@@ -7,10 +7,10 @@ use native.Mathlib.Omega.{arith}
 use lib.ListN.{length, get_or}
 use Rattle.text.specs.Decimal.{decimal}
 use Rattle.text.specs.Lines.{line_end}
-use Rattle.text.specs.PutLaws.{put_then, room_behind}
+use Rattle.text.proofs.PutLaws.{put_then, room_behind}
 use Rattle.naming.specs.Names.{extent_in, name_at}
 use Rattle.showing.specs.Shown.{hash_word, number_line}
-use Rattle.showing.specs.ShownLaws.{line_length}
+use Rattle.showing.proofs.ShownLaws.{line_length}
 use borrow.Author.Rules.{rules}
 use Rattle.showing.proofs.put_number_line.Statement.{statement}
 use Rattle.showing.proofs.put_number_line.Tie as tie

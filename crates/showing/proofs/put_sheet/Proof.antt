@@ -6,7 +6,7 @@ use native.Mathlib.Omega.{arith}
 use lib.Seq.{length-take-le}
 use Rattle.text.specs.declared.Printed.TheVariants.{Answer, Refusal}
 use Rattle.sheet.specs.Sheet.{sheet_of, fail}
-use Rattle.sheet.specs.RoomLaws.{Numbers, numbers_read, refused_read}
+use Rattle.sheet.proofs.RoomLaws.{Numbers, numbers_read, refused_read}
 use Rattle.showing.specs.Shown.{show_text, show_printed}
 use borrow.Author.Rules.{rules}
 use Rattle.showing.proofs.put_sheet.Statement.{statement}

@@ -3,7 +3,7 @@
 use mathlib.Core.Path.{refl}
 use lib.ListN.{replicate}
 use Rattle.showing.specs.Shown.{sheet_page}
-use Rattle.showing.specs.ShownLaws.{show_short}
+use Rattle.showing.proofs.ShownLaws.{show_short}
 use Rattle.showing.proofs.Lining.{within, handed}
 use borrow.Author.Rules.{rules}
 use Rattle.showing.proofs.show.Statement.{statement}

@@ -7,7 +7,7 @@ use borrow.Author.Rules.{rules}
 use Rattle.sheet.specs.Valid.{flow_count}
 use Rattle.tandem.specs.Tandem.{flow}
 use Rattle.tandem.specs.OfSheet.{tandem_of}
-use Rattle.tandem.specs.OfSheetLaws.{row_flows, row_watched, row_flow}
+use Rattle.tandem.proofs.OfSheetLaws.{row_flows, row_watched, row_flow}
 use Rattle.tandem.proofs.flow_at.Statement.{statement}
 use Rattle.tandem.proofs.flow_at.Tie as tie
 

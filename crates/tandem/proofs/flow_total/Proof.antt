@@ -4,7 +4,7 @@ use mathlib.Core.Path.{sym, ◌∙◌, ap}
 use Prim.Native.Nat.{ℕ, ◌+◌}
 use native.Mathlib.Omega.{arith}
 use borrow.Author.Rules.{rules}
-use Rattle.tandem.specs.OfSheetLaws.{row_flows}
+use Rattle.tandem.proofs.OfSheetLaws.{row_flows}
 use Rattle.tandem.proofs.flow_total.Statement.{statement}
 use Rattle.tandem.proofs.flow_total.Tie as tie
 

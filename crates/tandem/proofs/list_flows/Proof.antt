@@ -11,7 +11,7 @@ use borrow.Author.Rules.{rules}
 use Rattle.tandem.specs.declared.Flow.{Flow}
 use Rattle.tandem.specs.OfSheet.{tandem_of}
 use Rattle.tandem.specs.Lent.{spread_flows}
-use Rattle.tandem.specs.LentLaws.{spread_flows_length}
+use Rattle.tandem.proofs.LentLaws.{spread_flows_length}
 use Rattle.tandem.proofs.Fronts.{Front, front_length, front_none, front_flow}
 use Rattle.tandem.proofs.list_flows.Statement.{statement}
 use Rattle.tandem.proofs.list_flows.Tie as tie

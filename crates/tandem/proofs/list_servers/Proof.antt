@@ -11,9 +11,9 @@ use borrow.Author.Rules.{rules}
 use Rattle.sheet.specs.Valid.{server_count}
 use Rattle.tandem.specs.declared.Server.{Server}
 use Rattle.tandem.specs.OfSheet.{tandem_of}
-use Rattle.tandem.specs.OfSheetLaws.{row_size}
+use Rattle.tandem.proofs.OfSheetLaws.{row_size}
 use Rattle.tandem.specs.Lent.{spread_servers}
-use Rattle.tandem.specs.LentLaws.{spread_servers_length}
+use Rattle.tandem.proofs.LentLaws.{spread_servers_length}
 use Rattle.tandem.proofs.Fronts.{Front, front_length, front_none, front_server, server_listed}
 use Rattle.tandem.proofs.list_servers.Statement.{statement}
 use Rattle.tandem.proofs.list_servers.Tie as tie

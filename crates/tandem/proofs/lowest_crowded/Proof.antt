@@ -11,7 +11,7 @@ use borrow.Author.Tests.{lt-ltb, le-ltb}
 use Rattle.tandem.specs.Tandem.{size}
 use Rattle.tandem.specs.Crowded.{crowded, lowest_crowded}
 use Rattle.tandem.specs.OfSheet.{tandem_of}
-use Rattle.tandem.specs.OfSheetLaws.{row_size}
+use Rattle.tandem.proofs.OfSheetLaws.{row_size}
 use Rattle.tandem.proofs.Loading.{crowded_is, lowest_here, lowest_behind, lowest_none}
 use Rattle.tandem.proofs.lowest_crowded.Statement.{statement}
 use Rattle.tandem.proofs.lowest_crowded.Tie as tie

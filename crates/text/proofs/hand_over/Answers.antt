@@ -5,7 +5,7 @@ use mathlib.Core.Path.{sym, ◌∙◌}
 use native.Mathlib.Omega.{arith}
 use lib.ListN.{length, take}
 use lib.Seq.{length-take-le}
-use Rattle.ground.specs.BufferLaws.{holds_room, holds_short}
+use Rattle.ground.proofs.BufferLaws.{holds_room, holds_short}
 use Rattle.text.proofs.hand_over.Goals as goal
 
 pub slice_bounds-put_word-end : goal.slice_bounds-put_word-end

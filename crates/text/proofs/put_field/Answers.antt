@@ -3,8 +3,8 @@
 use native.Mathlib.Omega.{arith}
 use Rattle.text.specs.Decimal.{decimal}
 use Rattle.text.specs.Lines.{field}
-use Rattle.text.specs.LinesLaws.{field_length}
-use Rattle.text.specs.PutLaws.{put_then, put_long}
+use Rattle.text.proofs.LinesLaws.{field_length}
+use Rattle.text.proofs.PutLaws.{put_then, put_long}
 use Rattle.text.proofs.put_field.Goals as goal
 
 pub put_word-behind-requires : goal.put_word-behind-requires

@@ -2,8 +2,8 @@
 -- Assumes nothing.
 use native.Mathlib.Omega.{arith}
 use Rattle.text.specs.Lines.{line_end, field, line}
-use Rattle.text.specs.LinesLaws.{line_length}
-use Rattle.text.specs.PutLaws.{put_then, put_long}
+use Rattle.text.proofs.LinesLaws.{line_length}
+use Rattle.text.proofs.PutLaws.{put_then, put_long}
 use Rattle.text.proofs.put_line.Goals as goal
 
 pub put_field-behind-requires : goal.put_field-behind-requires

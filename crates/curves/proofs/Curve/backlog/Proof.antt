@@ -5,8 +5,8 @@ use mathlib.Core.Path.{◌≡◌, sym, ◌∙◌}
 use Prim.Native.Nat.{◌+◌, ◌*◌, ◌<◌, ◌^◌}
 use native.Mathlib.Omega.{arith}
 use Rattle.curves.specs.Held.{shape_of}
-use Rattle.curves.specs.SlotsLaws.{bucket_after}
-use Rattle.curves.specs.BacklogLaws.{backlog_behind, backlog_first}
+use Rattle.curves.proofs.SlotsLaws.{bucket_after}
+use Rattle.curves.proofs.BacklogLaws.{backlog_behind, backlog_first}
 use Rattle.curves.proofs.Curve.backlog.Statement.{statement}
 use Rattle.curves.proofs.Curve.backlog.Tie as tie
 

@@ -6,9 +6,9 @@ use Prim.Native.Nat.{◌+◌, ◌-◌, ◌≤◌}
 use native.Mathlib.Omega.{arith}
 use Rattle.curves.specs.Curve.{delay}
 use Rattle.curves.specs.Held.{shape_of}
-use Rattle.curves.specs.CurveLaws.{wait_after_offset}
-use Rattle.curves.specs.HeldLaws.{live_rates}
-use Rattle.curves.specs.DelayLaws.{delay_by_wait}
+use Rattle.curves.proofs.CurveLaws.{wait_after_offset}
+use Rattle.curves.proofs.HeldLaws.{live_rates}
+use Rattle.curves.proofs.DelayLaws.{delay_by_wait}
 use Rattle.curves.proofs.Curve.delay.Statement.{statement}
 use Rattle.curves.proofs.Curve.delay.Tie as tie
 

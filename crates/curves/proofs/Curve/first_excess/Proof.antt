@@ -8,7 +8,7 @@ use lib.ListN.{length, length-map}
 use Rattle.curves.specs.declared.Stage.{Stage}
 use Rattle.curves.specs.Curve.{line, greatest}
 use Rattle.curves.specs.Held.{Live}
-use Rattle.curves.specs.PartLaws.{all_whole, whole_part}
+use Rattle.curves.proofs.PartLaws.{all_whole, whole_part}
 use Rattle.curves.proofs.Parts.{Rising, begin_rising, live_next, turn_rising, end_rising}
 use Rattle.curves.proofs.Curve.first_excess.Statement.{statement}
 use Rattle.curves.proofs.Curve.first_excess.Tie as tie

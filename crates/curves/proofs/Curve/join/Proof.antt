@@ -8,7 +8,7 @@ use lib.ListN.{length, drop, length-set, length-map}
 use lib.Seq.{paste, paste-zero, paste-suc}
 use Rattle.curves.specs.Curve.{joined}
 use Rattle.curves.specs.Held.{shape_of, spare, blank}
-use Rattle.curves.specs.HeldLaws.{held_holds, held_joined}
+use Rattle.curves.proofs.HeldLaws.{held_holds, held_joined}
 use Rattle.curves.proofs.Curve.join.Statement.{statement}
 use Rattle.curves.proofs.Curve.join.Tie as tie
 

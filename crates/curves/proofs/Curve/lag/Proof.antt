@@ -5,7 +5,7 @@ use Prim.Native.Nat.{◌-◌}
 use native.Mathlib.Omega.{arith}
 use lib.ListN.{length, length-map}
 use Rattle.curves.specs.Curve.{catch_up}
-use Rattle.curves.specs.StageLaws.{catch_up_le}
+use Rattle.curves.proofs.StageLaws.{catch_up_le}
 use Rattle.curves.proofs.Parts.{Rising, begin_rising, live_next, turn_rising, end_rising}
 use Rattle.curves.proofs.Curve.lag.Statement.{statement}
 use Rattle.curves.proofs.Curve.lag.Tie as tie

@@ -5,8 +5,8 @@ use Prim.Native.Nat.{ℕ, ◌+◌}
 use native.Mathlib.Omega.{arith}
 use lib.Seq.{slice}
 use Rattle.curves.specs.Held.{shape_of, Live}
-use Rattle.curves.specs.HeldLaws.{live_rates}
-use Rattle.curves.specs.PartLaws.{all_whole, lag_whole, lag_le}
+use Rattle.curves.proofs.HeldLaws.{live_rates}
+use Rattle.curves.proofs.PartLaws.{all_whole, lag_whole, lag_le}
 use Rattle.curves.proofs.Curve.least_wait.Statement.{statement}
 use Rattle.curves.proofs.Curve.least_wait.Tie as tie
 

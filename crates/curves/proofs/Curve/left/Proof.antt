@@ -8,9 +8,9 @@ use native.Mathlib.Omega.{arith}
 use lib.ListN.{length, length-map}
 use Rattle.curves.specs.Curve.{after}
 use Rattle.curves.specs.Held.{shape_of, spare, Leaves, blank}
-use Rattle.curves.specs.HeldLaws.{held_holds}
+use Rattle.curves.proofs.HeldLaws.{held_holds}
 use Rattle.curves.specs.Part.{changed, left_in}
-use Rattle.curves.specs.PartLaws.{changed_outside, changed_more, changed_none, held_left}
+use Rattle.curves.proofs.PartLaws.{changed_outside, changed_more, changed_none, held_left}
 use Rattle.curves.proofs.Parts.{part_at}
 use Rattle.curves.proofs.Curve.left.Statement.{statement}
 use Rattle.curves.proofs.Curve.left.Tie as tie

@@ -3,7 +3,7 @@ use mathlib.Core.Path.{refl}
 use lib.ListN.{replicate}
 use Rattle.curves.specs.Curve.{neutral}
 use Rattle.curves.specs.Held.{held, blank}
-use Rattle.curves.specs.HeldLaws.{held_both}
+use Rattle.curves.proofs.HeldLaws.{held_both}
 use Rattle.curves.proofs.Curve.none.Statement.{statement}
 use Rattle.curves.proofs.Curve.none.Tie as tie
 

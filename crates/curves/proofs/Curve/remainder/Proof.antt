@@ -6,7 +6,7 @@ use Prim.Native.Nat.{◌-◌}
 use native.Mathlib.Omega.{arith}
 use Rattle.curves.specs.Curve.{Shape}
 use Rattle.curves.specs.Held.{spare, held, Holds, Leaves}
-use Rattle.curves.specs.PartLaws.{all_whole, left_whole}
+use Rattle.curves.proofs.PartLaws.{all_whole, left_whole}
 use Rattle.curves.proofs.Curve.remainder.Statement.{statement}
 use Rattle.curves.proofs.Curve.remainder.Tie as tie
 

@@ -4,7 +4,7 @@ use borrow.Author.Rules.{rules}
 use native.Mathlib.Nat.{mul-le-mul}
 use native.Mathlib.Omega.{arith}
 use Rattle.curves.specs.Curve.{ceil, catch_up}
-use Rattle.curves.specs.StageLaws.{catch_up_more, catch_up_least}
+use Rattle.curves.proofs.StageLaws.{catch_up_more, catch_up_least}
 use Rattle.curves.proofs.Stage.catch_up.Statement.{statement}
 use Rattle.curves.proofs.Stage.catch_up.Tie as tie
 

@@ -1,0 +1,9 @@
+-- The public function's contract leaves one possible result for every input.
+-- Assumes nothing.
+use Rattle.std.specs.Prelude.{ℕ, ◌≡◌, List}
+use Rattle.ground.proofs.ValueLaws.{one_value}
+use Rattle.analysis.specs.declared.Analysed.{Analysed}
+use Rattle.analysis.specs.Contract.{Analyse}
+
+pub analyse_unique : (bytes : List ℕ) (r r' : Analysed) → Analyse bytes r → Analyse bytes r' → r ≡ r'
+analyse_unique bytes r r' p q = one_value p.is q.is

@@ -1,0 +1,14 @@
+pub mod TileLaws
+pub mod KeyLaws
+pub mod NumberLaws
+pub mod ChooseLaws
+pub mod ServerLaws
+pub mod LeftLaws
+pub mod StateLaws
+pub mod UseLaws
+pub mod FoundLaws
+pub mod TurnLaws
+pub mod AfreshLaws
+pub mod NodeKeptLaws
+pub mod Figures
+pub mod Met

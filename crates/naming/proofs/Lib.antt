@@ -1,0 +1,3 @@
+pub mod NamesLaws
+pub mod Unique
+pub mod Figures

@@ -1,0 +1,13 @@
+pub mod BoundFigures
+pub mod LinesLaws
+pub mod RunLaws
+pub mod LeftoverLaws
+pub mod ServedLaws
+pub mod WithinLaws
+pub mod DemandLaws
+pub mod RunTestLaws
+pub mod Witness
+pub mod Fresh
+pub mod Freedom
+pub mod SilentLaws
+pub mod MistakeLaws

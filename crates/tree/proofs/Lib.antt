@@ -1,0 +1,14 @@
+pub mod PlanLaws
+pub mod NodeLaws
+pub mod NestedLaws
+pub mod OrderLaws
+pub mod StretchLaws
+pub mod SizeLaws
+pub mod PruneLaws
+pub mod ParentLaws
+pub mod LargeLaws
+pub mod GridLaws
+pub mod SearchLaws
+pub mod ChosenLaws
+pub mod MeaningLaws
+pub mod Met
