@@ -5,7 +5,7 @@ use Rattle.std.proofs.Common.{ap, inl, inr, arith}
 use Rattle.tandem.specs.Tandem.{Path, no_flow}
 use Rattle.tandem.specs.declared.Server.{Server}
 use Rattle.tandem.specs.declared.Flow.{Flow}
-use Rattle.tree.proofs.Met.{srv, flowed}
+use Rattle.tree.proofs.Instances.{srv, flowed}
 use Rattle.ground.specs.Each.{Each}
 use Rattle.tree.specs.Ordered.{Placed, Ordered}
 use Rattle.tree.specs.Stands.{Contains}
