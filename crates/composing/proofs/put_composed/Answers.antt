@@ -18,26 +18,25 @@ returns-then-text-gt16384 c =
 pub slice_bounds-numbers-end : goal.slice_bounds-numbers-end
 slice_bounds-numbers-end c =
     let said : Numbers c.args.text.now _ c.numbers_of_text.new.numbers c.numbers_of_text.result refl c.if-text-gt16384.false c.numbers_of_text.ensures c.in-Numbers.n = numbers_said _ _ _ _ refl c.if-text-gt16384.false c.numbers_of_text.ensures _ c.in-Numbers.is in
-    omega (arith, (said).few, c.numbers_of_text.auto.numbers)
+    omega (arith, said.few, c.numbers_of_text.auto.numbers)
 
 pub slice_bounds-put_numbers-end : goal.slice_bounds-put_numbers-end
 slice_bounds-put_numbers-end c =
     let said : Numbers c.args.text.now _ c.numbers_of_text.new.numbers c.numbers_of_text.result refl c.if-text-gt16384.false c.numbers_of_text.ensures c.in-Numbers.n = numbers_said _ _ _ _ refl c.if-text-gt16384.false c.numbers_of_text.ensures _ c.in-Numbers.is in
-    sym (length-take-le _ _ (omega (arith, (said).few, c.numbers_of_text.auto.numbers)))
+    sym (length-take-le _ _ (omega (arith, said.few, c.numbers_of_text.auto.numbers)))
 
 pub put_slip-n-requires : goal.put_slip-n-requires
 put_slip-n-requires c =
     let slips : composed c.args.text.now ≡ wrong (slip_line c.in-Wrong.slip c.in-Wrong.line) = slip_said _ _ _ _ refl c.if-text-gt16384.false c.numbers_of_text.ensures _ _ c.in-Wrong.is in
-    omega (arith, composed_short c.args.text.now, ap (λ (k : Composed). length (composed_bytes k)) (slips), c.requires)
+    omega (arith, composed_short c.args.text.now, ap (λ (k : Composed). length (composed_bytes k)) slips, c.requires)
 
 pub returns-in-Numbers : goal.returns-in-Numbers
 returns-in-Numbers c =
     let said : Numbers c.args.text.now _ c.numbers_of_text.new.numbers c.numbers_of_text.result refl c.if-text-gt16384.false c.numbers_of_text.ensures c.in-Numbers.n = numbers_said _ _ _ _ refl c.if-text-gt16384.false c.numbers_of_text.ensures _ c.in-Numbers.is in
     let e = c.put_numbers.ensures in
-    record { gives = e.gives ∙ rw (said).is; holds = e.holds ∙ rw (said).is }
+    record { gives = e.gives ∙ rw said.is; holds = e.holds ∙ rw said.is }
 
 pub returns-in-Wrong : goal.returns-in-Wrong
 returns-in-Wrong c =
     let slips : composed c.args.text.now ≡ wrong (slip_line c.in-Wrong.slip c.in-Wrong.line) = slip_said _ _ _ _ refl c.if-text-gt16384.false c.numbers_of_text.ensures _ _ c.in-Wrong.is in
-    let e = slips in
-    record { gives = rw e (ap Refusal (omega (arith, c.put_slip-n.ensures.next))); holds = c.put_slip-n.ensures.stored ∙ rw e }
+    record { gives = rw slips (ap Refusal (omega (arith, c.put_slip-n.ensures.next))); holds = c.put_slip-n.ensures.stored ∙ rw slips }

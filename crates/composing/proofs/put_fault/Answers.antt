@@ -1,6 +1,6 @@
 -- `composing::put_fault` meets its contract: by the number of the refusal; the name and the rest are put behind the opening words.
 -- Assumes nothing.
-use Prim.Native.Nat.{ℕ, ◌+◌, ◌≤◌}
+use Prim.Native.Nat.{◌+◌, ◌≤◌}
 use mathlib.Core.Path.{◌≡◌, ap}
 use native.Mathlib.Omega.{arith}
 use lib.ListN.{length}
@@ -26,19 +26,19 @@ put_word-open-requires c =
 pub put_name_at-name-requires : goal.put_name_at-name-requires
 put_name_at-name-requires c =
     let all_room : c.args.at + (2 + (length (name_at c.args.place (extent_in c.args.numbers.now)) + length (fault_end c.args.numbers.now c.args.number c.args.place))) ≤ length c.args.page.now = omega (arith, c.requires.1, named_length c.args.numbers.now c.args.number c.args.place _ c.refusal_of.ensures.is c.if-number-refusal_of.false) in
-    let behind-open : c.put_word-open.result + (length (name_at c.args.place (extent_in c.args.numbers.now)) + length (fault_end c.args.numbers.now c.args.number c.args.place)) ≤ length c.put_word-open.new.buf = room_behind open_word _ _ _ c.put_word-open.ensures (all_room) in
-    let name-is : (d : ℕ) → name_at d c.extent_of.result ≡ name_at d (extent_in c.args.numbers.now) = λ d. ap (name_at d) c.extent_of.ensures.is in
-    (c.requires.0, omega (arith, behind-open, ap length (name-is.args.place)))
+    let behind_open : c.put_word-open.result + (length (name_at c.args.place (extent_in c.args.numbers.now)) + length (fault_end c.args.numbers.now c.args.number c.args.place)) ≤ length c.put_word-open.new.buf = room_behind open_word _ _ _ c.put_word-open.ensures all_room in
+    let name_is : name_at c.args.place c.extent_of.result ≡ name_at c.args.place (extent_in c.args.numbers.now) = ap (name_at c.args.place) c.extent_of.ensures.is in
+    (c.requires.0, omega (arith, behind_open, ap length name_is))
 
 pub put_end-requires : goal.put_end-requires
 put_end-requires c =
     let all_room : c.args.at + (2 + (length (name_at c.args.place (extent_in c.args.numbers.now)) + length (fault_end c.args.numbers.now c.args.number c.args.place))) ≤ length c.args.page.now = omega (arith, c.requires.1, named_length c.args.numbers.now c.args.number c.args.place _ c.refusal_of.ensures.is c.if-number-refusal_of.false) in
-    let behind-open : c.put_word-open.result + (length (name_at c.args.place (extent_in c.args.numbers.now)) + length (fault_end c.args.numbers.now c.args.number c.args.place)) ≤ length c.put_word-open.new.buf = room_behind open_word _ _ _ c.put_word-open.ensures (all_room) in
-    let name-is : (d : ℕ) → name_at d c.extent_of.result ≡ name_at d (extent_in c.args.numbers.now) = λ d. ap (name_at d) c.extent_of.ensures.is in
-    (c.requires.0, room_behind _ _ _ _ c.put_name_at-name.ensures (omega (arith, behind-open, ap length (name-is.args.place))))
+    let behind_open : c.put_word-open.result + (length (name_at c.args.place (extent_in c.args.numbers.now)) + length (fault_end c.args.numbers.now c.args.number c.args.place)) ≤ length c.put_word-open.new.buf = room_behind open_word _ _ _ c.put_word-open.ensures all_room in
+    let name_is : name_at c.args.place c.extent_of.result ≡ name_at c.args.place (extent_in c.args.numbers.now) = ap (name_at c.args.place) c.extent_of.ensures.is in
+    (c.requires.0, room_behind _ _ _ _ c.put_name_at-name.ensures (omega (arith, behind_open, ap length name_is)))
 
 pub returns : goal.returns
 returns c =
-    let name-is : (d : ℕ) → name_at d c.extent_of.result ≡ name_at d (extent_in c.args.numbers.now) = λ d. ap (name_at d) c.extent_of.ensures.is in
-    rw (fault_named _ _ _ _ c.refusal_of.ensures.is c.if-number-refusal_of.false, ← name-is.args.place)
+    let name_is : name_at c.args.place c.extent_of.result ≡ name_at c.args.place (extent_in c.args.numbers.now) = ap (name_at c.args.place) c.extent_of.ensures.is in
+    rw (fault_named _ _ _ _ c.refusal_of.ensures.is c.if-number-refusal_of.false, ← name_is)
     (put_then open_word _ _ _ c.put_word-open.ensures (put_then _ _ _ _ c.put_name_at-name.ensures c.put_end.ensures))

@@ -19,14 +19,14 @@ put_field-behind-requires c =
 pub put_range-range-requires : goal.put_range-range-requires
 put_range-range-requires c =
     let all_room : c.args.at + (length (field is_word c.wide-x.result) + (length (outside_text c.args.numbers.now c.args.place) + 1)) ≤ length c.args.page.now = let e : field is_word c.wide-x.result ≡ field is_word (get_or c.args.numbers.now c.args.place 0) = ap (field is_word) (c.wide-x.ensures ∙ c.number_at.ensures.is) in omega (arith, c.requires.1, outside_length c.args.numbers.now c.args.place, ap length e) in
-    let behind-number : c.put_field-behind.result + (length (outside_text c.args.numbers.now c.args.place) + 1) ≤ length c.put_field-behind.new.page = room_behind _ _ _ _ c.put_field-behind.ensures (all_room) in
-    omega (arith, behind-number, ap length (range_said c.args.numbers.now c.args.place _ c.rule_at.ensures))
+    let behind_number : c.put_field-behind.result + (length (outside_text c.args.numbers.now c.args.place) + 1) ≤ length c.put_field-behind.new.page = room_behind _ _ _ _ c.put_field-behind.ensures all_room in
+    omega (arith, behind_number, ap length (range_said c.args.numbers.now c.args.place _ c.rule_at.ensures))
 
 pub put_word-requires : goal.put_word-requires
 put_word-requires c =
     let all_room : c.args.at + (length (field is_word c.wide-x.result) + (length (outside_text c.args.numbers.now c.args.place) + 1)) ≤ length c.args.page.now = let e : field is_word c.wide-x.result ≡ field is_word (get_or c.args.numbers.now c.args.place 0) = ap (field is_word) (c.wide-x.ensures ∙ c.number_at.ensures.is) in omega (arith, c.requires.1, outside_length c.args.numbers.now c.args.place, ap length e) in
-    let behind-number : c.put_field-behind.result + (length (outside_text c.args.numbers.now c.args.place) + 1) ≤ length c.put_field-behind.new.page = room_behind _ _ _ _ c.put_field-behind.ensures (all_room) in
-    room_behind _ _ _ 1 c.put_range-range.ensures (omega (arith, behind-number, ap length (range_said c.args.numbers.now c.args.place _ c.rule_at.ensures)))
+    let behind_number : c.put_field-behind.result + (length (outside_text c.args.numbers.now c.args.place) + 1) ≤ length c.put_field-behind.new.page = room_behind _ _ _ _ c.put_field-behind.ensures all_room in
+    room_behind _ _ _ 1 c.put_range-range.ensures (omega (arith, behind_number, ap length (range_said c.args.numbers.now c.args.place _ c.rule_at.ensures)))
 
 pub returns : goal.returns
 unfolding outside_line
