@@ -8,7 +8,6 @@ use Rattle.sheet.specs.Valid.{Valid}
 use Rattle.row.specs.declared.Formed.{Formed}
 use Rattle.row.specs.declared.Check.{Check}
 use Rattle.row.specs.declared.Check.TheVariants as check
-use Rattle.row.specs.Groups.{groups}
 use Rattle.row.specs.RowFor.{row_where}
 use Rattle.row.specs.OfSheet.{row_of, check_of, formed_of}
 use Rattle.search.specs.Point.{searched}

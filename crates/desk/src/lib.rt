@@ -1,4 +1,5 @@
-// The entries for the listing desk's programs in C: each gives refusal × 2^32 + detail as one number, with refusal 0 on success.
+// The entries for the listing desk's programs in C: each gives refusal × 2^32 + detail as one number, with refusal 0 on success. The crate desk_c
+// hands them out to C.
 
 #![tactic(auto)]
 
@@ -33,16 +34,14 @@ fn pack(outcome: Outcome) -> u64
 }
 
 // Reads a sheet's bytes into a lent list of numbers: their count, or a refusal that leaves the list as it was.
-#[unsafe(no_mangle)]
-pub extern "C" fn gullbiscuit_read_sheet(sheet: &[u8], numbers: &mut [u32]) -> u64
+pub fn gullbiscuit_read_sheet(sheet: &[u8], numbers: &mut [u32]) -> u64
     ensures { GullbiscuitReadSheet sheet.now numbers.old result numbers.new }
 {
     pack(sheet::read_sheet(sheet, numbers))
 }
 
 // Writes a list of numbers as a sheet's bytes into a lent buffer: their length, or a refusal that leaves the buffer as it was.
-#[unsafe(no_mangle)]
-pub extern "C" fn gullbiscuit_write_sheet(numbers: &[u32], sheet: &mut [u8]) -> u64
+pub fn gullbiscuit_write_sheet(numbers: &[u32], sheet: &mut [u8]) -> u64
     ensures { GullbiscuitWriteSheet numbers.now sheet.old result sheet.new }
 {
     pack(sheet::write_sheet(numbers, sheet))
@@ -92,8 +91,7 @@ fn put_record(numbers: &[u32], answer: &mut [u8]) -> Outcome
 }
 
 // Analyses a sheet and writes the answer record into a lent buffer: its length, or a refusal that leaves the buffer as it was.
-#[unsafe(no_mangle)]
-pub extern "C" fn gullbiscuit_analyse(sheet: &[u8], answer: &mut [u8]) -> u64
+pub fn gullbiscuit_analyse(sheet: &[u8], answer: &mut [u8]) -> u64
     ensures { GullbiscuitAnalyse sheet.now answer.old result answer.new }
 {
     let a = analysis::analyse(sheet);

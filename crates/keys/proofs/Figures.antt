@@ -7,7 +7,7 @@ use Rattle.tandem.specs.declared.Server.{Server}
 use Rattle.tandem.specs.declared.Flow.{Flow}
 use Rattle.tree.specs.Amounts.{sum_of}
 use Rattle.tree.specs.Plan.{top_of, along, node_curve, node_of, plan}
-use Rattle.tree.proofs.Met.{srv, flowed}
+use Rattle.tree.proofs.Instances.{srv, flowed}
 use Rattle.tree.specs.Grid.{points_of}
 use Rattle.tree.specs.Planned.{answer_of}
 use Rattle.keys.specs.Numbers.{point_at, first_digits}

@@ -11,4 +11,4 @@ pub mod TurnLaws
 pub mod AfreshLaws
 pub mod NodeKeptLaws
 pub mod Figures
-pub mod Met
+pub mod Instances

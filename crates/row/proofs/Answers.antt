@@ -8,7 +8,6 @@ use native.Mathlib.Omega.{arith}
 use lib.Dec.{ltb, eqb}
 use lib.ListN.{length, length-map}
 use borrow.Author.Tests.{lt-ltb}
-use Rattle.sheet.specs.Valid.{grid}
 use Rattle.tandem.specs.Tandem.{Tandem, size, no_server}
 use Rattle.tandem.specs.Crowded.{lowest_crowded}
 use Rattle.tandem.proofs.CrowdedLaws.{sound_uncrowded}

@@ -258,8 +258,8 @@ module _ (row : Row) (ok : Searchable row) where
         watched_is : watched_in lent ≡ w
         watched_is = lent_at 0 (omega (arith, ok.shaped.some))
 
-        groups_in : groups_in lent ≡ gs
-        groups_in =
+        groups_in_lem : groups_in lent ≡ gs
+        groups_in_lem =
             let m : length lent / 4 - 1 ≡ n = omega (arith, lent_long) in
             ap (λ (k : ℕ). listed k (λ i. lent_flow lent (suc i))) m
             ∙ listed_take n (λ i. lent_flow lent (suc i)) gs no_flow (omega (arith, groups_are)) (λ i h. lent_at (suc i) (omega arith) ∙ behind_first fs i)
@@ -284,7 +284,7 @@ module _ (row : Row) (ok : Searchable row) where
             e
             ∙ ap (λ (x : State). least_of (steps.start * 65536) (keys_under (climb 65536 (watched_in lent) (groups_in lent) (step_at steps.start steps.grid) steps.grid) (digits_of steps) n x)) begin_is
             ∙ ap (λ (f : Flow). least_of (steps.start * 65536) (keys_under (climb 65536 f (groups_in lent) (step_at steps.start steps.grid) steps.grid) (digits_of steps) n (whole ss))) watched_is
-            ∙ ap (λ (l : List Flow). least_of (steps.start * 65536) (keys_under (climb 65536 w l (step_at steps.start steps.grid) steps.grid) (digits_of steps) n (whole ss))) groups_in
+            ∙ ap (λ (l : List Flow). least_of (steps.start * 65536) (keys_under (climb 65536 w l (step_at steps.start steps.grid) steps.grid) (digits_of steps) n (whole ss))) groups_in_lem
             ∙ ap (λ (h : ℕ). least_of (steps.start * 65536) (keys_under (climb 65536 w gs (step_at steps.start h) h) (digits_of steps) n (whole ss))) steps_grid
             ∙ ap (λ (l : List ℕ). least_of (steps.start * 65536) (keys_under (climb 65536 w gs (step_at steps.start g) g) l n (whole ss))) d
             ∙ ap (λ (x : ℕ). least_of (x * 65536) (keys_under (climb 65536 w gs (step_at x g) g) (first_digits (step_at (start_of row) g) g) n (whole ss))) steps_start
@@ -309,15 +309,15 @@ module _ (row : Row) (ok : Searchable row) where
               few = omega (arith, lent_long, few);
               size = omega (arith, size, servers_are, ok.shaped.short);
               full = ap (λ (x : Shape). length x.stages) holds.shape ∙ sym holds.count;
-              placed = subst (λ (x : List Flow). Each (Placed c.count) x) (sym groups_in) (subst (λ (m : ℕ). Each (Placed m) gs) (sym size) placed.1);
-              light = subst (Each (λ f. f.burst < 2 ^ 40)) (sym groups_in) (each_map (λ f. f.burst + f.rate < 2 ^ 40) (λ f. f.burst < 2 ^ 40) gs (λ f h. omega (arith, h)) l.1);
+              placed = subst (λ (x : List Flow). Each (Placed c.count) x) (sym groups_in_lem) (subst (λ (m : ℕ). Each (Placed m) gs) (sym size) placed.1);
+              light = subst (Each (λ f. f.burst < 2 ^ 40)) (sym groups_in_lem) (each_map (λ f. f.burst + f.rate < 2 ^ 40) (λ f. f.burst < 2 ^ 40) gs (λ f h. omega (arith, h)) l.1);
               watched = subst (λ (f : Flow). f.burst + f.rate < 2 ^ 40) (sym watched_is) l.0;
-              moving = subst (λ (x : List Flow). Moving x n (state_of begin)) (sym groups_in)
+              moving = subst (λ (x : List Flow). Moving x n (state_of begin)) (sym groups_in_lem)
                   (subst (Moving gs n) (sym begin_is) (record { few = omega (arith, groups_are); moves = subst (λ (x : List Flow). Rates 1 (left_of (row_curve ss) x []).stages) (sym all) moves }));
               small = subst (Small (2 ^ 20)) (sym holds.shape) (small_row (2 ^ 20) ss ok.slow);
               soon = offset_small;
               wanted = λ j h. want j (omega (arith, h, size, servers_are)) ∙ ap (λ (x : List Flow). bursts_on x j + (w.burst + w.rate)) (sym all)
-                  ∙ ap (λ (x : List Flow). want_of x (w.burst + w.rate) n j) (sym groups_in)
+                  ∙ ap (λ (x : List Flow). want_of x (w.burst + w.rate) n j) (sym groups_in_lem)
                   ∙ ap (λ (f : Flow). want_of (groups_in lent) (f.burst + f.rate) n j) (sym watched_is);
               bounded = omega arith;
               numbered = omega arith;

@@ -11,4 +11,4 @@ pub mod GridLaws
 pub mod SearchLaws
 pub mod ChosenLaws
 pub mod MeaningLaws
-pub mod Met
+pub mod Instances
