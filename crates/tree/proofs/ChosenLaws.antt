@@ -15,7 +15,8 @@ use Rattle.tree.specs.Bound.{extra_of, answer_at, searched}
 use Rattle.tree.specs.Meaning.{meaning}
 use Rattle.tree.specs.Chosen.{Chosen, no_extras}
 use Rattle.tree.proofs.MeaningLaws.{bound_is_least}
-use Rattle.tree.proofs.GridLaws.{first_point, first_unique, quick_is}
+use Rattle.tree.proofs.GridLaws.{quick_is}
+use Rattle.tree.proofs.FirstLaws.{first_point, first_unique}
 use Rattle.tree.proofs.SearchLaws.{searched_first}
 
 -- what stands at a point has the least delay that covers the watched flow's bucket

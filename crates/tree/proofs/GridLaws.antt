@@ -33,7 +33,7 @@ not_inside P (x ∷ b) y [] p m e h n = let q : x ≡ p = cc in absurd (n (subst
 not_inside P (x ∷ b) y (z ∷ l) p m e h n = let r = not_inside P b y l p m (cc) h.1 n in omega arith
 
 -- what stands behind as many entries of one list is one entry
-same_place : {A : Type 0} (b : List A) (x : A) (y l : List A) (p : A) (m : List A) → b ++ (x ∷ y) ≡ l ++ (p ∷ m) → length b ≡ length l → x ≡ p
+pub same_place : {A : Type 0} (b : List A) (x : A) (y l : List A) (p : A) (m : List A) → b ++ (x ∷ y) ≡ l ++ (p ∷ m) → length b ≡ length l → x ≡ p
 same_place [] x y [] p m e h = cc
 same_place [] x y (z ∷ l) p m e h = absurd (omega arith)
 same_place (w ∷ b) x y [] p m e h = absurd (omega arith)
@@ -129,22 +129,6 @@ module _ (at : List ℕ → Answer) (points : List (List ℕ)) where
   pub first_stands : (best : Answer) (f : First at points best) (l : List (List ℕ)) (p : List ℕ) (m : List (List ℕ)) → points ≡ l ++ (p ∷ m)
       → (at p).delay ≤ best.delay → length f.before ≤ length l
   first_stands best f l p m e h = not_inside (λ q. best.delay < (at q).delay) f.before (f.point ∷ f.behind) l p m (sym f.split ∙ e) f.greater (λ k. omega arith)
-
-  -- so there is only one such point, and one answer
-  pub first_point : (a b : Answer) (f : First at points a) (h : First at points b) → f.point ≡ h.point
-  first_point a b f h =
-      let x = ap (λ (r : Answer). r.delay) f.there in
-      let y = ap (λ (r : Answer). r.delay) h.there in
-      let u = each_in (λ p. a.delay ≤ (at p).delay) h.before h.point h.behind
-      (subst (Each (λ p. a.delay ≤ (at p).delay)) h.split (first_least a f)) in
-      let v = each_in (λ p. b.delay ≤ (at p).delay) f.before f.point f.behind
-      (subst (Each (λ p. b.delay ≤ (at p).delay)) f.split (first_least b h)) in
-      let n = first_stands a f h.before h.point h.behind h.split (omega (arith, x, y, u, v)) in
-      let m = first_stands b h f.before f.point f.behind f.split (omega (arith, x, y, u, v)) in
-      same_place f.before f.point f.behind h.before h.point h.behind (sym f.split ∙ h.split) (omega (arith, n, m))
-
-  pub first_unique : (a b : Answer) → First at points a → First at points b → a ≡ b
-  first_unique a b f h = f.there ∙ ap at (first_point a b f h) ∙ sym h.there
 
 pub best_le : (at : List ℕ → Answer) (a : Answer) (l : List (List ℕ)) → (best_of at a l).delay ≤ a.delay
 best_le at a l = go (best_first at a l)

@@ -89,14 +89,14 @@ none_each P p (x ∷ l) h e = neither (p x) (some p l) (h x e.0) (none_each P p 
 
 -- what it says of a row that it is not refused by 9
 
-not_either : (a b : Bool) → (a || b) ≡ false → (a ≡ false) × (b ≡ false)
+pub not_either : (a b : Bool) → (a || b) ≡ false → (a ≡ false) × (b ≡ false)
 not_either true b h = absurd (true≢false h)
 not_either false b h = (refl, h)
 
-not_large : (n : ℕ) → large n ≡ false → n ≤ 2 ^ 63 - 1
+pub not_large : (n : ℕ) → large n ≡ false → n ≤ 2 ^ 63 - 1
 not_large n h = let l = ltb-false 9223372036854775807 n h in omega arith
 
-not_some : {A : Type 0} (P : A → Type 0) (p : A → Bool) (l : List A) → ((x : A) → p x ≡ false → P x) → some p l ≡ false → Each P l
+pub not_some : {A : Type 0} (P : A → Type 0) (p : A → Bool) (l : List A) → ((x : A) → p x ≡ false → P x) → some p l ≡ false → Each P l
 unfolding some
 not_some P p [] f h = tt
 not_some P p (x ∷ l) f h = let k = not_either (p x) (some p l) h in (f x k.0, not_some P p l f k.1)
@@ -116,43 +116,12 @@ small_curve c h =
     let k = not_either (large c.offset) (some (λ (s : Stage). large s.burst || large s.rate) c.stages) h in
     record { offset = not_large c.offset k.0; stages = small_stages c.stages k.1 }
 
-small_node : (n : Node) → large_node n ≡ false → SmallNode n
+pub small_node : (n : Node) → large_node n ≡ false → SmallNode n
 unfolding large_node
 small_node n h =
     let k = not_either (large_curve n.curve) (large n.wait || large_curve n.left) h in
     let w = not_either (large n.wait) (large_curve n.left) k.1 in
     record { curve = small_curve n.curve k.0; wait = not_large n.wait w.0; left = small_curve n.left w.1 }
-
-small_at : (row : Tandem) (es : List ℕ) → large_at row es ≡ false → SmallAt row es
-unfolding large_at
-small_at row es h =
-    let k = not_either (some large_node (plan row.servers (reads row) (0 ∷ es))) (large (answer_at row es).delay) h in
-    record {
-      nodes = not_some SmallNode large_node (plan row.servers (reads row) (0 ∷ es)) small_node k.0;
-      delay =
-          not_large (answer_at row es).delay k.1;
-    }
-
--- the points that are worked out: the one with every e = 0, and in mode 0 all points of the grid
-pub not_too_large : (row : Tandem) (mode g : ℕ) → too_large row mode g ≡ false
-    → SmallAt row (replicate (length (groups row)) 0)
-    × (mode ≡ 0 → Each (SmallAt row) (points_of (steps_of (answer_at row (replicate (length (groups row)) 0)).delay g) (length (groups row))))
-unfolding too_large
-not_too_large row mode g h =
-    (small_at row (replicate n 0) k.0, λ z. not_some (SmallAt row) (large_at row) points (small_at row) (turn (eqb mode 0) (eq-eqb mode 0 z) k.1))
-  where
-    n : ℕ
-    n = length (groups row)
-
-    points : List (List ℕ)
-    points = points_of (steps_of (answer_at row (replicate n 0)).delay g) n
-
-    k : (large_at row (replicate n 0) ≡ false) × (cond (eqb mode 0) (some (large_at row) points) false ≡ false)
-    k = not_either (large_at row (replicate n 0)) (cond (eqb mode 0) (some (large_at row) points) false) h
-
-    turn : (b : Bool) → b ≡ true → cond b (some (large_at row) points) false ≡ false → some (large_at row) points ≡ false
-    turn true e q = q
-    turn false e q = absurd (true≢false (sym e))
 
 -- and back: where none of them passes it, the row is not refused by 9
 

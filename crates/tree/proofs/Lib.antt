@@ -7,7 +7,9 @@ pub mod SizeLaws
 pub mod PruneLaws
 pub mod ParentLaws
 pub mod LargeLaws
+pub mod NotLargeLaws
 pub mod GridLaws
+pub mod FirstLaws
 pub mod SearchLaws
 pub mod ChosenLaws
 pub mod MeaningLaws
