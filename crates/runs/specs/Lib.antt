@@ -3,4 +3,5 @@ pub mod Run
 pub mod Demand
 pub mod Served
 pub mod RunTests
+pub mod WitnessRun
 pub mod Mistakes
