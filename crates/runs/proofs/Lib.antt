@@ -10,6 +10,7 @@ pub mod GoodLaws
 pub mod WithinLaws
 pub mod OnTimeLaws
 pub mod DemandLaws
+pub mod InsideLaws
 pub mod RunTestLaws
 pub mod Witness
 pub mod Fresh

@@ -33,7 +33,7 @@ use Rattle.runs.proofs.LeftoverLaws.{deadline}
 use Rattle.runs.proofs.GoodLaws.{good}
 use Rattle.runs.proofs.WithinLaws.{within_out}
 
-watched_rate_lem : (row : Tandem) → 0 < length row.flows → (flow row 0).rate ≤ rates row watched
+pub watched_rate_lem : (row : Tandem) → 0 < length row.flows → (flow row 0).rate ≤ rates row watched
 unfolding rates watched
 watched_rate_lem row h =
     let k : weigh (eqb 0 0) (flow row 0).rate ≤ rates row watched = total_at (length row.flows) 0 (λ f. weigh (eqb 0 f) (flow row f).rate) h in
@@ -44,10 +44,10 @@ module _ (row : Tandem) (sound : Sound row) {B : Type 0} (run : Run B) (H : ℕ)
   moves : 0 < (flow row 0).rate
   moves = sound.moves 0 sound.some
 
-  claim : Good run H watched 1 (span p) (curve row extra p)
+  pub claim : Good run H watched 1 (span p) (curve row extra p)
   claim = good row run H keeps extra sound.room watched 1 p (omega arith) (omega (arith, moves, watched_rate_lem row sound.some)) fits
 
-  room_for : Rates (rates row watched) (curve row extra p).stages
+  pub room_for : Rates (rates row watched) (curve row extra p).stages
   room_for = curve_rates row extra sound.room watched 1 p (omega arith) fits
 
   -- the watched bytes that came by t are the first of those that are gone by t + bound
@@ -63,7 +63,7 @@ module _ (row : Tandem) (sound : Sound row) {B : Type 0} (run : Run B) (H : ℕ)
       (rates_weaken (flow row 0).rate (rates row watched) (curve row extra p).stages (watched_rate_lem row sound.some) room_for)
       claim.serves t h)
 
-  past_all : past run 1 (span p) ≡ run.leave (size row)
+  pub past_all : past run 1 (span p) ≡ run.leave (size row)
   unfolding past
   past_all =
       let e : size row ≡ suc (size row - 1) = omega (arith, sound.long) in
