@@ -1,6 +1,7 @@
--- What is left after a group in a line that keeps its order, two stretches in series, and the delay of a bucket, all of counts by slot.
+-- What is left after a group in a line that keeps its order (RestLaws.antt ends it), two stretches in series, and the delay of a bucket, all of
+-- counts by slot.
 -- Assumes nothing.
-use Rattle.std.specs.Prelude.{◌≡◌, refl, ◌⊎◌, ℕ, zero, suc, ◌+◌, ◌*◌, ◌-◌, ◌≤◌, ◌<◌}
+use Rattle.std.specs.Prelude.{◌≡◌, refl, ◌⊎◌, ℕ, suc, ◌+◌, ◌*◌, ◌-◌, ◌≤◌, ◌<◌}
 use Rattle.std.proofs.Common.{inl, inr, mul-le-mul_left}
 use native.Mathlib.Omega.{arith}
 use Rattle.curves.specs.Curve.{Shape, Under, Rates, neutral, joined, least_wait, remainder, delay}
@@ -9,17 +10,6 @@ use Rattle.curves.proofs.JoinLaws.{joined_split}
 use Rattle.curves.proofs.RemainderLaws.{remainder_under}
 use Rattle.curves.proofs.DelayLaws.{delay_under}
 use Rattle.runs.specs.Served.{Serves}
-
--- the greatest slot by which no more than x had come
-crossing : (A : ℕ → ℕ) (x : ℕ) → A 0 ≤ x → (t : ℕ) → (A t ≤ x) ⊎ ((s : ℕ) × (s < t) × (A s ≤ x) × (x < A (suc s)))
-crossing A x h zero = inl h
-crossing A x h (suc t) = step (le_or_lt (A (suc t)) x) (crossing A x h t)
-  where
-    step : (A (suc t) ≤ x) ⊎ (x < A (suc t)) → (A t ≤ x) ⊎ ((s : ℕ) × (s < t) × (A s ≤ x) × (x < A (suc s)))
-        → (A (suc t) ≤ x) ⊎ ((s : ℕ) × (s < suc t) × (A s ≤ x) × (x < A (suc s)))
-    step (inl a) r = inl a
-    step (inr a) (inl b) = inr (t, omega arith, b, a)
-    step (inr a) (inr b) = inr (b.0, omega (arith, b.1), b.2, b.3)
 
 -- A group that keeps the bucket (σ, ρ) is taken out, with wait θ. A and D count the rest's bytes that have come and gone by a slot, AG and DG the
 -- group's. The line keeps its order: what of both had come by a slot and fits in what of both has gone has gone, in each of the two; and what of
@@ -34,7 +24,7 @@ module _ (H : ℕ) (c : Shape) (σ ρ θ : ℕ) (A AG D DG : ℕ → ℕ)
     (serves : Serves H c (λ t. A t + AG t) (λ t. D t + DG t)) where
   -- p is the last slot by which no more had come than has gone by t, and lies further back than the wait. Then what is served since u is at least
   -- the curve, of which the group has taken no more than its bucket over u + 1 .. p + 1
-  late : (t p u v : ℕ) → t ≤ H → p < t → θ < t - p → u ≤ t → D t + DG t < A (suc p) + AG (suc p)
+  pub late : (t p u v : ℕ) → t ≤ H → p < t → θ < t - p → u ≤ t → D t + DG t < A (suc p) + AG (suc p)
       → ((x : ℕ) → Under c (t - u) x → A u + AG u + x ≤ D t + DG t)
       → Under (remainder c σ ρ θ) (t - u) v → A u + v ≤ D t
   late t p u v ht hp hθ hu hlt g h =
@@ -53,26 +43,6 @@ module _ (H : ℕ) (c : Shape) (σ ρ θ : ℕ) (A AG D DG : ℕ → ℕ)
               let b : AG (suc p) ≤ AG u + (σ + ρ * (suc p - u)) = bucket u (suc p) (omega arith) (omega arith) in
               let q : ρ * (suc p - u) ≤ ρ * (t - u - θ) = mul-le-mul_left ρ (omega arith) in
               omega arith
-
-  -- where p lies within the wait the remainder is 0, and what had come by p has gone
-  pub leftover : Serves H (remainder c σ ρ θ) A D
-  unfolding remainder
-  leftover t ht = step (crossing (λ a. A a + AG a) (D t + DG t) (omega arith) t)
-    where
-      none : (u v : ℕ) → t - u ≤ θ → A u ≤ D t → Under (remainder c σ ρ θ) (t - u) v → A u + v ≤ D t
-      none u v h k (inl e) = omega arith
-      none u v h k (inr e) = absurd (omega (arith, e.0))
-
-      step : (A t + AG t ≤ D t + DG t) ⊎ ((p : ℕ) × (p < t) × (A p + AG p ≤ D t + DG t) × (D t + DG t < A (suc p) + AG (suc p)))
-          → (u : ℕ) × (u ≤ t) × ((v : ℕ) → Under (remainder c σ ρ θ) (t - u) v → A u + v ≤ D t)
-      step (inl h) = (t, omega arith, λ v. none t v (omega arith) (rest_fifo t t (omega arith) ht h))
-      step (inr (p, hp, h, k)) = far (le_or_lt (t - p) θ)
-        where
-          far : (t - p ≤ θ) ⊎ (θ < t - p) → (u : ℕ) × (u ≤ t) × ((v : ℕ) → Under (remainder c σ ρ θ) (t - u) v → A u + v ≤ D t)
-          far (inl l) = (p, omega arith, λ v. none p v l (rest_fifo p t (omega arith) ht h))
-          far (inr l) =
-              let g = serves t ht in
-              (g.0, g.1, λ v. late t p g.0 v ht hp l g.1 k g.2)
 
 -- two stretches in series: what leaves the first comes to the second in the same slot, and what is under the joined curve splits
 pub series : (H : ℕ) (c d : Shape) (A M M' D : ℕ → ℕ) → ((t : ℕ) → t ≤ H → M t ≡ M' t)

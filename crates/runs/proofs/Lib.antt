@@ -1,10 +1,16 @@
 pub mod BoundFigures
 pub mod LinesLaws
 pub mod RunLaws
+pub mod BucketLaws
 pub mod LeftoverLaws
+pub mod RestLaws
 pub mod ServedLaws
+pub mod GroupLaws
+pub mod GoodLaws
 pub mod WithinLaws
+pub mod OnTimeLaws
 pub mod DemandLaws
+pub mod InsideLaws
 pub mod RunTestLaws
 pub mod Witness
 pub mod Fresh

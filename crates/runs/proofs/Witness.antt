@@ -1,8 +1,8 @@
 -- One run of P3 that keeps every premise, and in which a watched byte leaves one slot after it entered: the premises of demand 3 are no empty
 -- set, and its bound is reached.
 -- Assumes nothing.
-use Rattle.std.specs.Prelude.{ℕ, zero, suc, ◌≡◌, refl}
-use mathlib.Core.List.{List, [], ◌∷◌, Memᴰ}
+use Rattle.std.specs.Prelude.{ℕ, ◌≡◌, refl}
+use mathlib.Core.List.{Memᴰ}
 use Rattle.std.proofs.Common.{arith}
 use Rattle.numbers.specs.Seven.{number_at}
 use Rattle.fields.specs.Rule.{rule_at, seen_after, field_at}
@@ -23,31 +23,12 @@ use Rattle.tree.specs.Tree.{stretch_from, top, tree}
 use Rattle.tree.specs.Grid.{steps_of, points_of, better, found_of}
 use Rattle.tree.specs.Bound.{bound, waits, answer_at, searched}
 use Rattle.runs.specs.Lines.{keep, by}
-use Rattle.runs.specs.Run.{Run, Keeps, joined_by, left_by}
+use Rattle.runs.specs.Run.{Keeps, joined_by, left_by}
 use Rattle.runs.specs.Demand.{OnTime, bound_of}
+use Rattle.runs.specs.WitnessRun.{sheet, run}
 use Rattle.runs.specs.RunTests.{each, each_of, begins, same, has, on_path, in_order, relayed, keeps_buckets, guarantees, keeps_all}
 use Rattle.runs.proofs.RunTestLaws.{keeps_all_lem, has_is, has_not}
 use Rattle.runs.proofs.DemandLaws.{demand_three}
-
--- P3: "R 10, T 0", "watched 6, 5", "mode 0, g 3". Every number is below 128, so the sheet's bytes are its numbers.
-abbrev pub sheet : List ℕ
-sheet = 1 ∷ 1 ∷ 10 ∷ 0 ∷ 0 ∷ 6 ∷ 5 ∷ 0 ∷ 3 ∷ []
-
--- eleven bytes join in slot 1; ten leave in it, and one in slot 2
-abbrev pub joining : ℕ → List ℕ
-joining zero = []
-joining (suc zero) = 0 ∷ 1 ∷ 2 ∷ 3 ∷ 4 ∷ 5 ∷ 6 ∷ 7 ∷ 8 ∷ 9 ∷ 10 ∷ []
-joining (suc (suc t)) = []
-
-abbrev pub leaving : ℕ → List ℕ
-leaving zero = []
-leaving (suc zero) = 0 ∷ 1 ∷ 2 ∷ 3 ∷ 4 ∷ 5 ∷ 6 ∷ 7 ∷ 8 ∷ 9 ∷ []
-leaving (suc (suc zero)) = 10 ∷ []
-leaving (suc (suc (suc t))) = []
-
--- every byte is of the watched flow
-abbrev pub run : Run ℕ
-run = record { of = λ b. 0; join = λ j. joining; leave = λ j. leaving }
 
 pub sheet_read : sheet_of sheet ≡ these sheet
 unfolding sheet_of step_on rule_at seen_after field_at number_at

@@ -2,26 +2,28 @@
 -- Assumes nothing.
 use Rattle.std.specs.Prelude.{◌≡◌, refl, true, false, ◌⊎◌, [], ◌∷◌, ℕ, zero, suc, ◌+◌, ◌-◌, ◌≤◌, ◌<◌, ◌^◌, get_or}
 use Rattle.std.proofs.Common.{sym, ◌∙◌, true≢false, inl, inr, arith, lt-ltb, le-leb}
-use Rattle.curves.specs.Slots.{Covers, Least}
+use Rattle.curves.specs.Slots.{bucket, Covers, Least, excess, Greatest}
+use Rattle.curves.specs.Curve.{neutral, joined, ceil, greatest, catch_up, least_wait, remainder, backlog, server as serverShape}
 use Rattle.ground.proofs.OrderLaws.{le_or_lt}
 use Rattle.tandem.specs.Sums.{total, any}
 use Rattle.tandem.specs.declared.Server.{Server}
 use Rattle.tandem.specs.declared.Flow.{Flow}
-use Rattle.tandem.specs.Tandem.{Tandem, server, flow, crosses, on, rates, no_server}
+use Rattle.tandem.specs.Tandem.{Tandem, server, flow, crosses, on, bursts, rates, no_server}
 use Rattle.row.specs.Groups.{used, from, from_on, groups, reads}
 use Rattle.row.specs.Checks.{overlaps, not_nested}
 use Rattle.tandem.specs.Sound.{Lies, Limits}
 use Rattle.row.specs.Accepted.{Accepted}
 use Rattle.tree.specs.Plan.{plan}
-use Rattle.tree.specs.Tree.{tree}
-use Rattle.tree.specs.Bound.{bound, extra_of, answer_at}
+use Rattle.tree.specs.Stretch.{group_wait, after_group, curve}
+use Rattle.tree.specs.Tree.{stretch_from, top, tree}
+use Rattle.tree.specs.Bound.{bound, backlog_bound, extra_of, answer_at}
 use Rattle.tree.specs.Fine.{AllFine}
 use Rattle.tree.specs.Amounts.{sum_of}
 use Rattle.tree.specs.Meaning.{meaning}
 use Rattle.tandem.proofs.SumLaws.{none_of}
 use Rattle.tree.proofs.SizeLaws.{plan_fine}
 use Rattle.tree.proofs.PruneLaws.{latencies_of, delay_ge_sum}
-use Rattle.tree.proofs.MeaningLaws.{bound_is_least}
+use Rattle.tree.proofs.MeaningLaws.{bound_is_least, backlog_is_greatest}
 
 -- rows written by hand: a server, and a flow
 
@@ -120,3 +122,12 @@ delay_met = delay_ge_sum row8 accepted8 (1 ∷ 0 ∷ 2 ∷ []) refl
 
 pub bound_met : Least (Covers (meaning row8 (extra_of (1 ∷ 0 ∷ 2 ∷ [])) (tree row8)) 6 2) (bound row8 (extra_of (1 ∷ 0 ∷ 2 ∷ [])) (tree row8))
 bound_met = bound_is_least row8 accepted8 (extra_of (1 ∷ 0 ∷ 2 ∷ []))
+
+-- at the point 0, 0, 0, on which its bound stands: the root's offset is 6, so 6 + 2 · 6 bytes are inside at most
+backlog8 : backlog_bound row8 (extra_of (0 ∷ 0 ∷ 0 ∷ [])) (tree row8) ≡ 18
+unfolding backlog_bound backlog bucket tree stretch_from top curve joined neutral serverShape after_group group_wait least_wait catch_up remainder greatest ceil
+    bursts rates total groups from_on from used any on
+backlog8 = refl
+
+pub backlog_met : Greatest (excess (meaning row8 (extra_of (0 ∷ 0 ∷ 0 ∷ [])) (tree row8)) 6 2) 18
+backlog_met = rw backlog8 at (backlog_is_greatest row8 accepted8 (extra_of (0 ∷ 0 ∷ 0 ∷ [])))

@@ -1,24 +1,26 @@
--- The root's curve in closed form is, at every slot, the function of slots that the tree means; so the bound is the least delay over that.
+-- The root's curve in closed form is, at every slot, the function of slots that the tree means; so the bound is the least delay over that, and the
+-- backlog the greatest excess.
 -- Assumes nothing.
 use Rattle.std.specs.Prelude.{◌≡◌, Bool, true, false, ◌||◌, eqb, length}
 use Rattle.std.proofs.Math.Path.{ap, fun_ext}
 use Rattle.std.proofs.Common.{◌∙◌}
 use Prim.Native.Nat.{ℕ, ◌+◌, ◌≤◌, ◌<◌}
 use native.Mathlib.Omega.{arith}
-use Rattle.curves.specs.Slots.{serve, conv, left, Covers, Least}
-use Rattle.curves.specs.Curve.{Shape, value_at, joined, least_wait, remainder}
+use Rattle.curves.specs.Slots.{serve, conv, left, Covers, Least, excess, Greatest}
+use Rattle.curves.specs.Curve.{Shape, value_at, joined, least_wait, remainder, Rates}
 use Rattle.curves.specs.Curve.{server as serverShape}
 use Rattle.curves.proofs.StageLaws.{rates_weaken}
 use Rattle.curves.proofs.CurveLaws.{server_is_serve}
 use Rattle.curves.proofs.JoinLaws.{neutral_joined, join_is_conv}
 use Rattle.curves.proofs.RemainderLaws.{remainder_is_left, remainder_length}
 use Rattle.curves.proofs.DelayLaws.{delay_is_least}
+use Rattle.curves.proofs.BacklogLaws as closed
 use Rattle.tandem.specs.Sums.{weigh}
 use Rattle.tandem.specs.Tandem.{Tandem, Path, size, server, flow, crosses, on, watched, bursts, rates}
 use Rattle.row.specs.Accepted.{Accepted}
 use Rattle.tree.specs.Stretch.{Stretch, none, then_server, then_group, span, group_wait, after_group, curve}
 use Rattle.tree.specs.Tree.{tree}
-use Rattle.tree.specs.Bound.{bound}
+use Rattle.tree.specs.Bound.{bound, backlog_bound}
 use Rattle.tree.specs.Fits.{Fits}
 use Rattle.tree.specs.Meaning.{behind, meaning}
 use Rattle.tandem.proofs.SumLaws.{total_at}
@@ -94,6 +96,15 @@ module _ (row : Tandem) (ok : Accepted row) (extra : ℕ → ℕ) where
   moves : 0 < (flow row 0).rate
   moves = ok.sound.moves 0 ok.sound.some
 
+  -- the root's curve has a stage, and every stage has room for the watched flow
+  some_stage : 0 < length (curve row extra (tree row)).stages
+  some_stage = omega (arith, stage_count row extra (tree row), (tree_fits row ok).1, ok.sound.long)
+
+  room_for : Rates (flow row 0).rate (curve row extra (tree row)).stages
+  room_for =
+      rates_weaken (flow row 0).rate (rates row watched) (curve row extra (tree row)).stages watched_rate_lem
+      (curve_rates row extra ok.sound.room watched 1 (tree row) (omega arith) (tree_fits row ok).0)
+
   -- the main law: the root's curve is at every slot what the tree means
   pub root_is_meaning : (t : ℕ) → value_at (curve row extra (tree row)) t ≡ meaning row extra (tree row) t
   root_is_meaning t =
@@ -113,3 +124,10 @@ module _ (row : Tandem) (ok : Accepted row) (extra : ℕ → ℕ) where
       (delay_is_least c (flow row 0).burst (flow row 0).rate (omega (arith, stage_count row extra (tree row), fit.1, ok.sound.long)) (omega (arith, moves))
       (rates_weaken 1 (rates row watched) c.stages (omega (arith, watched_rate_lem, moves)) z)
       (rates_weaken (flow row 0).rate (rates row watched) c.stages watched_rate_lem z))
+
+  -- "the greatest, over u ≥ 0, of the bucket at u less the root curve at u, never below 0"
+  pub backlog_is_greatest : Greatest (excess (meaning row extra (tree row)) (flow row 0).burst (flow row 0).rate) (backlog_bound row extra (tree row))
+  unfolding backlog_bound
+  backlog_is_greatest =
+      rw (← (fun_ext root_is_meaning))
+      (closed.backlog_is_greatest (curve row extra (tree row)) (flow row 0).burst (flow row 0).rate some_stage room_for)

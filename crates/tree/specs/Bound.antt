@@ -1,7 +1,8 @@
--- The delay and the waits at a point of the grid, and what the search of a row gives (document 01, "Groups, tree and grid").
+-- The delay and the waits at a point of the grid, and what the search of a row gives (document 01, "Groups, tree and grid"); and the backlog there
+-- (document 02, Wish 1).
 -- Assumes nothing.
 use Rattle.std.specs.Prelude.{ℕ, suc, List, [], ◌∷◌, length, get_or}
-use Rattle.curves.specs.Curve.{delay}
+use Rattle.curves.specs.Curve.{delay, backlog}
 use Rattle.tandem.specs.Tandem.{Tandem, Path, flow}
 use Rattle.row.specs.Groups.{groups}
 use Rattle.tree.specs.Grid.{Answer, Found, found_of}
@@ -11,6 +12,10 @@ use Rattle.tree.specs.Tree.{inside, top, tree}
 -- the delay of the watched flow's bucket over the curve of a stretch
 unfoldable pub bound : Tandem → (ℕ → ℕ) → Stretch → ℕ
 bound row extra p = delay (curve row extra p) (flow row 0).burst (flow row 0).rate
+
+-- and its backlog there: "the greatest, over u ≥ 0, of the bucket at u less the root curve at u, never below 0" (MeaningLaws.antt proves it)
+unfoldable pub backlog_bound : Tandem → (ℕ → ℕ) → Stretch → ℕ
+backlog_bound row extra p = backlog (curve row extra p) (flow row 0).burst (flow row 0).rate
 
 -- the waits of the groups gs, numbered from k on: "Each group's wait is its h, worked out after all groups inside it, plus an extra e."
 unfoldable pub waits : Tandem → (ℕ → ℕ) → ℕ → List Path → List ℕ

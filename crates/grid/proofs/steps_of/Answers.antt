@@ -46,10 +46,10 @@ loop-i-preserved c =
     let e = l.i * a.start / (a.g - 1) in (
       omega arith,
       elim c.if-e-last.branch [
-        then-e-last w ↦
-          rw (w.values-is, w.digits-is, w.count-is) (stepping_new a.start a.g l.values l.digits l.count l.last l.i e l.invariant.1 refl w.if-e-last.true (omega arith))
-      | else-e-last w ↦
-          rw (w.values-is, w.digits-is, w.count-is) (stepping_same a.start a.g l.values l.digits l.count l.last l.i e l.invariant.1 refl w.if-e-last.false)
+        | then-e-last w ↦
+            rw (w.values-is, w.digits-is, w.count-is) (stepping_new a.start a.g l.values l.digits l.count l.last l.i e l.invariant.1 refl w.if-e-last.true (omega arith))
+        | else-e-last w ↦
+            rw (w.values-is, w.digits-is, w.count-is) (stepping_same a.start a.g l.values l.digits l.count l.last l.i e l.invariant.1 refl w.if-e-last.false)
       ],
     )
 
