@@ -13,6 +13,7 @@ pub mod DemandLaws
 pub mod InsideLaws
 pub mod RunTestLaws
 pub mod Witness
+pub mod Filled
 pub mod Fresh
 pub mod Freedom
 pub mod SilentLaws

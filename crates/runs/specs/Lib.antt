@@ -5,4 +5,5 @@ pub mod Inside
 pub mod Served
 pub mod RunTests
 pub mod WitnessRun
+pub mod FilledRun
 pub mod Mistakes
