@@ -6,312 +6,210 @@
 
 #![tactic(auto)]
 
-ghost use Rattle.std.specs.Prelude.{◌+◌, ◌*◌, ◌≤◌, ◌<◌, length};
-ghost use Rattle.std.specs.Io.{ReadsAtMost};
-
-use fields::{Outcome, Why};
-use numbers::Got;
+use fields::{Refusal, Why};
 use std::io;
 use std::io::Read;
 
-// What fills the lent list before each call; no field of a sheet is as large.
-const UNREAD: u32 = 2779096485;
-
-// What fills the lent buffer before each call.
-const UNWRITTEN: u8 = 165;
-
-// A byte as a wider number.
-fn wide(x: u8) -> u64
-    ensures { result < 256 }
-{
-    x as u64
+// Why no more cases are run.
+#[derive(Drop)]
+enum Halt {
+    // What is wrong with the input.
+    Input(&'static str),
+    // The input cannot be read, or a line cannot be written.
+    Io(io::Error),
 }
 
-// The number in two bytes.
-fn two(bytes: &[u8; 5], at: usize) -> usize
-    requires { at + 2 ≤ 5 }
-{
-    (wide(bytes[at]) + 256 * wide(bytes[at + 1])) as usize
-}
-
-// The number in four bytes.
-fn four(bytes: &[u8], at: usize) -> u32
-    requires { at + 4 ≤ length bytes.now }
-{
-    let low = wide(bytes[at]) + 256 * wide(bytes[at + 1]);
-    let high = wide(bytes[at + 2]) + 256 * wide(bytes[at + 3]);
-    (low + 65536 * high) as u32
-}
-
-// Fills a list with the numbers in four bytes each.
-fn unpack(bytes: &[u8], list: &mut [u32])
-    requires { 4 * length list.old ≤ length bytes.now }
-{
-    let mut i: usize = 0;
-    while i < list.len() {
-        list[i] = four(bytes, 4 * i);
-        i = i + 1;
+impl From<io::Error> for Halt {
+    fn from(error: io::Error) -> Halt {
+        Halt::Io(error)
     }
 }
 
-// Writes a space and a number.
-fn print_next(rt: &impl Print, x: u64) -> io::Result<()> {
-    print!(rt; " {x}")
+// What a call of the reader or of the writer is lent to write to: numbers, or bytes.
+trait Entry: Copy + PartialEq + Drop {
+    // What fills it before the call.
+    const FILLER: Self;
+
+    // Writes entries on the line of a case.
+    fn print_all(rt: &impl Print, entries: &[Self]) -> io::Result<()>;
+}
+
+impl Entry for u32 {
+    // No field of a sheet is as large.
+    const FILLER: u32 = 2779096485;
+
+    fn print_all(rt: &impl Print, numbers: &[u32]) -> io::Result<()> {
+        for x in numbers {
+            print!(rt; " {x}")?;
+        }
+        Ok(())
+    }
+}
+
+impl Entry for u8 {
+    const FILLER: u8 = 165;
+
+    fn print_all(rt: &impl Print, bytes: &[u8]) -> io::Result<()> {
+        print!(rt; " ")?;
+        for x in bytes {
+            print!(rt; "{x:02x}")?;
+        }
+        Ok(())
+    }
 }
 
 // Writes the line of a refusal.
-fn print_refusal(rt: &impl Print, why: Why, detail: usize) -> io::Result<()> {
-    print!(rt; "refused")?;
-    print_next(rt, fields::refusal_of(why) as u64)?;
-    print_next(rt, detail as u64)?;
-    println!(rt; "")
+fn print_refusal(rt: &impl Print, refusal: Refusal) -> io::Result<()> {
+    println!(rt;
+        "refused {} {}",
+        fields::refusal_of(refusal.why),
+        refusal.at
+    )
 }
 
-// Writes the first n numbers of a list.
-fn print_list(rt: &impl Print, list: &[u32], n: usize) -> io::Result<()> {
-    let mut i: usize = 0;
-    while i < list.len() {
-        if i == n {
-            return Ok(());
+// Writes the line of a call that was lent a list, and one more if the list has changed behind what was to be written.
+fn print_outcome<E: Entry>(
+    rt: &impl Print,
+    outcome: Result<usize, Refusal>,
+    list: &[E],
+) -> io::Result<()> {
+    let written = match outcome {
+        Ok(n) => {
+            print!(rt; "ok {n}")?;
+            E::print_all(rt, list.get(..n).unwrap_or(list))?;
+            println!(rt; "")?;
+            n
         }
-        let x = list[i];
-        print_next(rt, x as u64)?;
-        i = i + 1;
+        Err(refusal) => {
+            print_refusal(rt, refusal)?;
+            0
+        }
+    };
+    if list.iter().skip(written).any(|x| *x != E::FILLER) {
+        println!(rt; "touched")?;
     }
     Ok(())
 }
 
-// Writes the first n bytes of a buffer in hexadecimal digits.
-fn print_bytes(rt: &impl Print, bytes: &[u8], n: usize) -> io::Result<()> {
-    let mut i: usize = 0;
-    while i < bytes.len() {
-        if i == n {
-            return Ok(());
-        }
-        let x = wide(bytes[i]);
-        print!(rt; "{x:02x}")?;
-        i = i + 1;
-    }
+// Lends so many entries of a list to a call, and writes what comes of it.
+fn lend<E: Entry, F: FnOnce(&mut [E]) -> Result<usize, Refusal>>(
+    rt: &impl Print,
+    list: &mut [E],
+    room: usize,
+    call: F,
+) -> Result<(), Halt>
+    requires { F.IsAlwaysCallable call }
+{
+    let lent = list
+        .get_mut(..room)
+        .ok_or(Halt::Input("the room is too large"))?;
+    let outcome = call(lent);
+    print_outcome(rt, outcome, lent)?;
     Ok(())
-}
-
-// Writes a line if a list has changed at some place from `from` on.
-fn expect_unread(rt: &impl Print, list: &[u32], from: usize) -> io::Result<()> {
-    let mut i = from;
-    while i < list.len() {
-        if list[i] != UNREAD {
-            return println!(rt; "touched");
-        }
-        i = i + 1;
-    }
-    Ok(())
-}
-
-// Writes a line if a buffer has changed at some place from `from` on.
-fn expect_unwritten(rt: &impl Print, bytes: &[u8], from: usize) -> io::Result<()> {
-    let mut i = from;
-    while i < bytes.len() {
-        if bytes[i] != UNWRITTEN {
-            return println!(rt; "touched");
-        }
-        i = i + 1;
-    }
-    Ok(())
-}
-
-// Says why no more cases can be run.
-fn stop(rt: &impl Print, why: &str) -> io::Result<bool> {
-    println!(rt; "{why}")?;
-    Ok(false)
 }
 
 // Reads the number at an offset.
-fn number_case(rt: &impl Print, bytes: &[u8], at: usize) -> io::Result<bool> {
+fn number_case(rt: &impl Print, bytes: &[u8], at: usize) -> io::Result<()> {
     match numbers::read_number(bytes, at) {
-        Got::Number(x, next) => {
-            print!(rt; "ok")?;
-            print_next(rt, x as u64)?;
-            print_next(rt, next as u64)?;
-            println!(rt; "")?;
-        }
-        Got::Ends => {
-            print_refusal(rt, Why::Ends, at)?;
-        }
-        Got::Padded => {
-            print_refusal(rt, Why::Padded, at)?;
-        }
-        Got::Large => {
-            print_refusal(rt, Why::Large, at)?;
-        }
-    }
-    Ok(true)
-}
-
-// Reads a sheet into a lent list that holds nothing but `UNREAD`.
-fn read_case(rt: &impl Print, bytes: &[u8], list: &mut [u32]) -> io::Result<()> {
-    match sheet::read_sheet(bytes, list) {
-        Outcome::Done(n) => {
-            print!(rt; "ok")?;
-            print_next(rt, n as u64)?;
-            print_list(rt, list, n)?;
-            println!(rt; "")?;
-            expect_unread(rt, list, n)
-        }
-        Outcome::Refused(why, detail) => {
-            print_refusal(rt, why, detail)?;
-            expect_unread(rt, list, 0)
-        }
+        Ok((x, next)) => println!(rt; "ok {x} {next}"),
+        Err(fault) => print_refusal(
+            rt,
+            Refusal {
+                why: Why::from(fault),
+                at,
+            },
+        ),
     }
 }
 
-// Writes a sheet into a lent buffer that holds nothing but `UNWRITTEN`.
-fn write_case(rt: &impl Print, list: &[u32], buffer: &mut [u8]) -> io::Result<()> {
-    match sheet::write_sheet(list, buffer) {
-        Outcome::Done(n) => {
-            print!(rt; "ok")?;
-            print_next(rt, n as u64)?;
-            print!(rt; " ")?;
-            print_bytes(rt, buffer, n)?;
-            println!(rt; "")?;
-            expect_unwritten(rt, buffer, n)
-        }
-        Outcome::Refused(why, detail) => {
-            print_refusal(rt, why, detail)?;
-            expect_unwritten(rt, buffer, 0)
-        }
-    }
+// Reads a sheet into a list of `room` numbers.
+fn read_case(rt: &impl Print, bytes: &[u8], room: usize) -> Result<(), Halt> {
+    lend(rt, &mut [u32::FILLER; 320], room, |list| {
+        sheet::read_sheet(bytes, list)
+    })
 }
 
-// Lends a list of `room` numbers to a case.
-fn lend_list(rt: &impl Print, bytes: &[u8], room: usize) -> io::Result<bool> {
-    let mut list = [UNREAD; 320];
-    if 320 < room {
-        return stop(rt, "the room is too large");
-    }
-    read_case(rt, bytes, &mut list[..room])?;
-    Ok(true)
-}
-
-// Lends a buffer of `room` bytes to a case.
-fn lend_buffer(rt: &impl Print, list: &[u32], room: usize) -> io::Result<bool> {
-    let mut buffer = [UNWRITTEN; 640];
-    if 640 < room {
-        return stop(rt, "the room is too large");
-    }
-    write_case(rt, list, &mut buffer[..room])?;
-    Ok(true)
-}
-
-// Writes a sheet of the numbers in the bytes of a case, by way of a list that has room for just these.
-fn write_numbers(rt: &impl Print, bytes: &[u8], list: &mut [u32], room: usize) -> io::Result<bool> {
-    if 4 * list.len() != bytes.len() {
-        return stop(rt, "a number is cut");
-    }
-    unpack(bytes, list);
-    lend_buffer(rt, list, room)
-}
-
-// Makes the list of the numbers in the bytes of a case.
-fn take_list(rt: &impl Print, bytes: &[u8], room: usize) -> io::Result<bool> {
+// Writes a sheet of the numbers in the bytes of a case into a buffer of `room` bytes.
+fn write_case(rt: &impl Print, bytes: &[u8], room: usize) -> Result<(), Halt> {
     let mut list = [0u32; 256];
-    let n = bytes.len() / 4;
-    if 256 < n {
-        return stop(rt, "the input is too long");
+    let (groups, rest) = bytes.as_chunks::<4>();
+    let list = list
+        .get_mut(..groups.len())
+        .ok_or(Halt::Input("the input is too long"))?;
+    if !rest.is_empty() {
+        return Err(Halt::Input("a number is cut"));
     }
-    write_numbers(rt, bytes, &mut list[..n], room)
+    for (x, group) in list.iter_mut().zip(groups) {
+        *x = u32::from_le_bytes(*group);
+    }
+    lend(rt, &mut [u8::FILLER; 640], room, |buffer| {
+        sheet::write_sheet(list, buffer)
+    })
 }
 
 // Runs a case by its letter.
-fn run_case(rt: &impl Print, letter: u8, bytes: &[u8], room: usize) -> io::Result<bool> {
-    if letter == b'n' {
-        return number_case(rt, bytes, room);
+fn run_case(rt: &impl Print, letter: u8, bytes: &[u8], room: usize) -> Result<(), Halt> {
+    match letter {
+        b'n' => Ok(number_case(rt, bytes, room)?),
+        b'r' => read_case(rt, bytes, room),
+        b'w' => write_case(rt, bytes, room),
+        _ => Err(Halt::Input("no such case")),
     }
-    if letter == b'r' {
-        return lend_list(rt, bytes, room);
-    }
-    if letter == b'w' {
-        return take_list(rt, bytes, room);
-    }
-    stop(rt, "no such case")
 }
 
-// Reads until the buffer is full or the input ends, and gives how many bytes stand at the buffer's start.
-fn fill(input: &mut impl Read, bytes: &mut [u8]) -> io::Result<usize>
-    ensures { ReadsAtMost result bytes.new }
-{
-    let mut n: usize = 0;
-    while n < bytes.len() {
-        let got = input.read(&mut bytes[n..])?;
-        if got == 0 {
-            break;
-        }
-        n += got;
-    }
-    Ok(n)
+// Fills a buffer from the input; `why` says what it means that the input ends before.
+fn fill(input: &mut impl Read, bytes: &mut [u8], why: &'static str) -> Result<(), Halt> {
+    input.read_exact(bytes).map_err(|error| match error.kind() {
+        io::ErrorKind::UnexpectedEof => Halt::Input(why),
+        _ => Halt::Io(error),
+    })
 }
 
-// Fills a list with the bytes of a case from standard input, and runs it.
-fn take_bytes(
-    input: &mut impl Read,
-    rt: &impl Print,
-    letter: u8,
-    bytes: &mut [u8],
-    room: usize,
-) -> io::Result<bool> {
-    if fill(input, bytes)? < bytes.len() {
-        return stop(rt, "the input is cut");
-    }
+// Takes the next case from the input, and runs it.
+fn next_case(input: &mut impl Read, rt: &impl Print) -> Result<(), Halt> {
+    let mut head = [0u8; 5];
+    fill(input, &mut head, "a case is missing")?;
+    let [letter, room0, room1, size0, size1] = head;
+    let room = usize::from(u16::from_le_bytes([room0, room1]));
+    let size = usize::from(u16::from_le_bytes([size0, size1]));
+    let mut bytes = [0u8; 2048];
+    let bytes = bytes
+        .get_mut(..size)
+        .ok_or(Halt::Input("the input is too long"))?;
+    fill(input, bytes, "the input is cut")?;
     run_case(rt, letter, bytes, room)
 }
 
-// Makes the list of the bytes of a case, and runs it.
-fn take_case(
-    input: &mut impl Read,
-    rt: &impl Print,
-    letter: u8,
-    room: usize,
-    size: usize,
-) -> io::Result<bool> {
-    let mut bytes = [0u8; 2048];
-    if 2048 < size {
-        return stop(rt, "the input is too long");
-    }
-    take_bytes(input, rt, letter, &mut bytes[..size], room)
-}
-
-// Takes the next case from standard input, and runs it.
-fn next_case(input: &mut impl Read, rt: &impl Print) -> io::Result<bool> {
-    let mut head = [0u8; 5];
-    if fill(input, &mut head)? < 5 {
-        return stop(rt, "a case is missing");
-    }
-    take_case(input, rt, head[0], two(&head, 1), two(&head, 3))
-}
-
-// Runs that many cases, or those up to the first that cannot be run.
-fn run_cases(input: &mut impl Read, rt: &impl Print, count: u32) -> io::Result<()> {
-    let mut left = count;
-    while 0 < left {
-        if !next_case(input, rt)? {
-            return Ok(());
-        }
-        left = left - 1;
+// Runs the cases of the input, of which there are as many as it says.
+fn run_cases(input: &mut impl Read, rt: &impl Print) -> Result<(), Halt> {
+    let mut count = [0u8; 4];
+    fill(input, &mut count, "the number of cases is cut")?;
+    for _ in 0..u32::from_le_bytes(count) {
+        next_case(input, rt)?;
     }
     Ok(())
 }
 
-// Runs all cases, and writes a line if something is left behind them.
+// Sees that the input ends.
+fn expect_end(input: &mut impl Read) -> Result<(), Halt> {
+    match input.read(&mut [0u8; 1])? {
+        0 => Ok(()),
+        _ => Err(Halt::Input("bytes are left")),
+    }
+}
+
+// Writes a line if something is wrong with the input.
+fn report(rt: &impl Print, outcome: Result<(), Halt>) -> io::Result<()> {
+    match outcome {
+        Ok(()) => Ok(()),
+        Err(Halt::Input(why)) => println!(rt; "{why}"),
+        Err(Halt::Io(error)) => Err(error),
+    }
+}
+
+// Runs all cases, or those up to the first that cannot be run, and says so if something is left behind them.
 fn main(rt: HostRuntime) -> io::Result<()> {
     let mut input = rt.stdin();
-    let mut head = [0u8; 4];
-    if fill(&mut input, &mut head)? < 4 {
-        stop(&rt, "the number of cases is cut")?;
-        return Ok(());
-    }
-    run_cases(&mut input, &rt, four(&head, 0))?;
-    let mut rest = [0u8; 1];
-    if 0 < fill(&mut input, &mut rest)? {
-        stop(&rt, "bytes are left")?;
-    }
-    Ok(())
+    report(&rt, run_cases(&mut input, &rt))?;
+    report(&rt, expect_end(&mut input))
 }

@@ -3,4 +3,3 @@ pub mod StepLaws
 pub mod PlaceLaws
 pub mod CursorLaws
 pub mod Figures
-pub mod Moving

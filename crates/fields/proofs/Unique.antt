@@ -1,13 +1,13 @@
 -- Each public function's contract leaves one possible result for every input.
 -- Assumes nothing.
-use Rattle.std.specs.Prelude.{ℕ, ◌≡◌}
+use Rattle.std.specs.Prelude.{ℕ, ◌≡◌, Option, Result}
 use Rattle.ground.proofs.ValueLaws.{one_value}
-use Rattle.numbers.specs.declared.Got.{Got}
+use Rattle.numbers.specs.declared.Fault.{Fault}
 use Rattle.fields.specs.declared.User.{User}
 use Rattle.fields.specs.declared.Rule.{Rule}
 use Rattle.fields.specs.declared.Cursor.{Cursor}
-use Rattle.fields.specs.declared.Step.{Step}
 use Rattle.fields.specs.declared.Why.{Why}
+use Rattle.fields.specs.declared.Refusal.{Refusal}
 use Rattle.fields.specs.Contract.{PerServer, ServerPlace, FlowPlace, FieldRule, Start, After, StepOn, RefusalOf}
 
 pub per_server_unique : (edition r r' : ℕ) → PerServer edition r → PerServer edition r' → r ≡ r'
@@ -29,7 +29,8 @@ start_unique user r r' p q = one_value p.is q.is
 pub after_unique : (user : User) (c : Cursor) (x : ℕ) (r r' : Cursor) → After user c x r → After user c x r' → r ≡ r'
 after_unique user c x r r' p q = one_value p.is q.is
 
-pub step_on_unique : (got : Got) (size at : ℕ) (rule : Rule) (r r' : Step) → StepOn got size at rule r → StepOn got size at rule r' → r ≡ r'
+pub step_on_unique : (got : Result (ℕ × ℕ) Fault) (size at : ℕ) (rule : Rule) (r r' : Result (Option (ℕ × ℕ)) Refusal) → StepOn got size at rule r
+    → StepOn got size at rule r' → r ≡ r'
 step_on_unique got size at rule r r' p q = one_value p.is q.is
 
 pub refusal_of_unique : (why : Why) (r r' : ℕ) → RefusalOf why r → RefusalOf why r' → r ≡ r'

@@ -1,12 +1,12 @@
 -- What each public function promises of its result, for every input.
 -- Assumes nothing.
-use Rattle.std.specs.Prelude.{ℕ, ◌≡◌}
-use Rattle.numbers.specs.declared.Got.{Got}
+use Rattle.std.specs.Prelude.{ℕ, ◌≡◌, Option, Result}
+use Rattle.numbers.specs.declared.Fault.{Fault}
 use Rattle.fields.specs.declared.User.{User}
 use Rattle.fields.specs.declared.Rule.{Rule}
 use Rattle.fields.specs.declared.Cursor.{Cursor}
-use Rattle.fields.specs.declared.Step.{Step}
 use Rattle.fields.specs.declared.Why.{Why}
+use Rattle.fields.specs.declared.Refusal.{Refusal}
 use Rattle.fields.specs.Rule.{per_server, server_at, flow_at, field_rule, nothing}
 use Rattle.fields.specs.Cursor.{cursor_at, cursor_after}
 use Rattle.fields.specs.Step.{step_on}
@@ -36,7 +36,7 @@ pub record After (user : User) (c : Cursor) (x : ℕ) (r : Cursor) : Type 0 wher
   -- the cursor moved on by x; from the cursor of a place it is that of the next (`cursor_after_lem`)
   pub is : r ≡ cursor_after user c x
 
-pub record StepOn (got : Got) (size at : ℕ) (rule : Rule) (r : Step) : Type 0 where
+pub record StepOn (got : Result (ℕ × ℕ) Fault) (size at : ℕ) (rule : Rule) (r : Result (Option (ℕ × ℕ)) Refusal) : Type 0 where
   -- "Order: field by field, 1 or 2 before 4 or 5": the step from what was got at a place of a source with that size
   pub is : r ≡ step_on got size at rule
 

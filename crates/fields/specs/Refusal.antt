@@ -1,8 +1,9 @@
 -- Document 01's number and detail of each answer ("Refusals by number"). This is the one place that knows the numbers.
 -- Assumes nothing.
-use Rattle.std.specs.Prelude.{ℕ}
-use Rattle.fields.specs.declared.Outcome.{Outcome}
-use Rattle.fields.specs.declared.Outcome.TheVariants.{Done, Refused}
+use Rattle.std.specs.Prelude.{ℕ, Result, Ok, Err}
+use Rattle.numbers.specs.declared.Fault.{Fault}
+use Rattle.numbers.specs.declared.Fault.TheVariants as fault
+use Rattle.fields.specs.declared.Refusal.{Refusal}
 use Rattle.fields.specs.declared.Why.{Why}
 use Rattle.fields.specs.declared.Why.TheVariants.{Ends, Padded, Large, Left, Outside, OffPath, Crossing, Crowded, Points, TooLarge, Short}
 
@@ -30,11 +31,21 @@ refusal TooLarge = 9
 refusal Short = 10
 
 -- 0 on success
-abbrev pub number : Outcome → ℕ
-number (Done n) = 0
-number (Refused w d) = refusal w
+abbrev pub number : Result ℕ Refusal → ℕ
+number (Ok n) = 0
+number (Err r) = refusal r.why
 
 -- the count or the length on success
-abbrev pub detail : Outcome → ℕ
-detail (Done n) = n
-detail (Refused w d) = d
+abbrev pub detail : Result ℕ Refusal → ℕ
+detail (Ok n) = n
+detail (Err r) = r.at
+
+-- a refusal, and the detail that goes with it
+abbrev pub refused : Why → ℕ → Refusal
+refused why at = record { why = why; at = at }
+
+-- why no number stands at a place, told as a reason of a refusal
+abbrev pub why_of : Fault → Why
+why_of fault.Ends = Ends
+why_of fault.Padded = Padded
+why_of fault.Large = Large

@@ -3,19 +3,24 @@
 #![tactic(auto)]
 
 ghost use Rattle.std.specs.Prelude.{◌≡◌, ◌<◌};
-ghost use Rattle.fields.specs.Rule.{mode_rule, in_range, allowed, why_outside, is_past};
+ghost use Rattle.std.specs.Result.{result_map_both};
+ghost use Rattle.fields.specs.Rule.{mode_rule, allowed, why_outside, is_past};
 ghost use Rattle.fields.specs.Cursor.{standing};
+ghost use Rattle.fields.specs.Step.{step_on};
+ghost use Rattle.fields.specs.Refusal.{why_of, refused};
 ghost use Rattle.fields.specs.Contract.{PerServer, ServerPlace, FlowPlace, FieldRule, Start, After, StepOn, RefusalOf};
 
+use numbers::Fault;
+
 // Whose rule it is: the reader's or the writer's.
-#[derive(Clone, Copy)]
+#[derive(Clone, Copy, PartialEq, Eq)]
 pub enum User {
     Reader,
     Writer,
 }
 
 // What a field may hold: a range; a range of servers; 0 or a range. Behind the last field there is none.
-#[derive(Clone, Copy)]
+#[derive(Clone, Copy, PartialEq, Eq)]
 pub enum Rule {
     Range(u32, u32),
     Path(u32, u32),
@@ -25,7 +30,8 @@ pub enum Rule {
 
 // Where a walk over the fields stands: the field's number in document 01's table, from 0; how many servers or cross flows are left, this one
 // included; N once it is known; and the field's rule.
-#[derive(Clone, Copy)]
+// Kept: the field is a number, since a place behind the last field has one too, and the names of the fields go by it.
+#[derive(Clone, Copy, PartialEq, Eq)]
 pub struct Cursor {
     pub field: usize,
     pub left: u32,
@@ -34,7 +40,7 @@ pub struct Cursor {
 }
 
 // Why a sheet or its analysis is refused; specs/Refusal.antt gives document 01's number and words of each, in this order.
-#[derive(Clone, Copy)]
+#[derive(Clone, Copy, PartialEq, Eq)]
 pub enum Why {
     Ends,
     Padded,
@@ -49,19 +55,23 @@ pub enum Why {
     Short,
 }
 
-// What the reader and the writer give: the count or the length; or a refusal with its detail.
-#[derive(Clone, Copy)]
-pub enum Outcome {
-    Done(usize),
-    Refused(Why, usize),
+// A refusal, and its detail: a place in the sheet, or what else document 01 says for it.
+#[derive(Clone, Copy, PartialEq, Eq)]
+pub struct Refusal {
+    pub why: Why,
+    pub at: usize,
 }
 
-// One field: a number that its rule admits, with the place behind it; a refusal; or the end of the sheet.
-#[derive(Clone, Copy)]
-pub enum Step {
-    Value(u32, usize),
-    Stop(Why, usize),
-    End,
+impl From<Fault> for Why {
+    ghost from_gives = { λ f w. w ≡ why_of f };
+
+    fn from(fault: Fault) -> Why {
+        match fault {
+            Fault::Ends => Why::Ends,
+            Fault::Padded => Why::Padded,
+            Fault::Large => Why::Large,
+        }
+    }
 }
 
 // How many numbers a server takes in an edition.
@@ -93,8 +103,7 @@ fn mode_rule(user: User) -> Rule
     ensures { result ≡ mode_rule user }
 {
     match user {
-        User::Reader => Rule::Range(0, 1),
-        User::Writer => Rule::Range(0, 1),
+        User::Reader | User::Writer => Rule::Range(0, 1),
     }
 }
 
@@ -120,140 +129,133 @@ pub fn field_rule(user: User, field: usize, servers: u32, prev: u32) -> Rule
     }
 }
 
-// A cursor at a field, with so many servers or flows left, N, and the number before it.
-fn at_field(user: User, field: usize, left: u32, servers: u32, prev: u32) -> Cursor
-    ensures { result ≡ standing user field left servers prev }
-{
-    Cursor {
-        field,
-        left,
-        servers,
-        rule: field_rule(user, field, servers, prev),
-    }
-}
-
-// A cursor at the first field.
-pub fn start(user: User) -> Cursor
-    ensures { Start user result }
-{
-    at_field(user, 0, 0, 0, 0)
-}
-
-// The cursor once x has been passed: at the next field, or at the first field of the next server or flow.
-pub fn after(user: User, c: Cursor, x: u32) -> Cursor
-    ensures { After user c x result }
-{
-    let field = c.field;
-    match field {
-        0 => at_field(user, 1, c.left, c.servers, x),
-        1 => at_field(user, 2, x, x, x),
-        2 => at_field(user, 3, c.left, c.servers, x),
-        3 => {
-            if 1 < c.left {
-                at_field(user, 2, c.left - 1, c.servers, x)
-            } else {
-                at_field(user, 4, 0, c.servers, x)
-            }
+impl Cursor {
+    // A cursor at a field, with so many servers or flows left, N, and the number before it.
+    fn at_field(user: User, field: usize, left: u32, servers: u32, prev: u32) -> Cursor
+        ensures { result ≡ standing user field left servers prev }
+    {
+        Cursor {
+            field,
+            left,
+            servers,
+            rule: field_rule(user, field, servers, prev),
         }
-        4 => {
-            if 0 < x {
-                at_field(user, 5, x, c.servers, x)
-            } else {
-                at_field(user, 9, 0, c.servers, x)
-            }
+    }
+
+    // A cursor at the first field.
+    #[tactic(auto, unfolding(crate::specs::Rule::field_at, crate::specs::Rule::rule_at, crate::specs::Cursor::left_at))]
+    pub fn start(user: User) -> Cursor
+        ensures { Start user result }
+    {
+        Cursor::at_field(user, 0, 0, 0, 0)
+    }
+
+    // The cursor once x has been passed: at the next field, or at the first field of the next server or flow.
+    #[tactic(auto, unfolding(crate::specs::Cursor::cursor_after))]
+    pub fn after(self, user: User, x: u32) -> Cursor
+        ensures { After user self x result }
+    {
+        let Cursor {
+            field,
+            left,
+            servers,
+            ..
+        } = self;
+        // Kept: a line for each field, as in the table; with one arm for all that go on to the next field a read takes a sixth more instructions.
+        match field {
+            0 => Cursor::at_field(user, 1, left, servers, x),
+            1 => Cursor::at_field(user, 2, x, x, x),
+            2 => Cursor::at_field(user, 3, left, servers, x),
+            3 if 1 < left => Cursor::at_field(user, 2, left - 1, servers, x),
+            3 => Cursor::at_field(user, 4, 0, servers, x),
+            4 if 0 < x => Cursor::at_field(user, 5, x, servers, x),
+            4 => Cursor::at_field(user, 9, 0, servers, x),
+            5 => Cursor::at_field(user, 6, left, servers, x),
+            6 => Cursor::at_field(user, 7, left, servers, x),
+            7 => Cursor::at_field(user, 8, left, servers, x),
+            8 if 1 < left => Cursor::at_field(user, 5, left - 1, servers, x),
+            8 => Cursor::at_field(user, 9, 0, servers, x),
+            9 => Cursor::at_field(user, 10, left, servers, x),
+            10 => Cursor::at_field(user, 11, left, servers, x),
+            11 => Cursor::at_field(user, 12, left, servers, x),
+            _ => Cursor::at_field(user, 13, left, servers, x),
         }
-        5 => at_field(user, 6, c.left, c.servers, x),
-        6 => at_field(user, 7, c.left, c.servers, x),
-        7 => at_field(user, 8, c.left, c.servers, x),
-        8 => {
-            if 1 < c.left {
-                at_field(user, 5, c.left - 1, c.servers, x)
-            } else {
-                at_field(user, 9, 0, c.servers, x)
-            }
+    }
+}
+
+impl Rule {
+    // Whether the rule admits x.
+    fn allows(self, x: u32) -> bool
+        ensures { result ≡ allowed self x }
+    {
+        match self {
+            Rule::Range(low, high) | Rule::Path(low, high) => low <= x && x <= high,
+            Rule::ZeroOr(low, high) => x == 0 || low <= x && x <= high,
+            Rule::Past => false,
         }
-        9 => at_field(user, 10, c.left, c.servers, x),
-        10 => at_field(user, 11, c.left, c.servers, x),
-        11 => at_field(user, 12, c.left, c.servers, x),
-        _ => at_field(user, 13, c.left, c.servers, x),
+    }
+
+    // Why a number that the rule does not admit is refused.
+    fn outside(self) -> Why
+        ensures { result ≡ why_outside self }
+    {
+        match self {
+            Rule::Range(_, _) | Rule::ZeroOr(_, _) => Why::Outside,
+            Rule::Path(_, _) => Why::OffPath,
+            Rule::Past => Why::Left,
+        }
+    }
+
+    // Whether the sheet's fields have ended.
+    fn is_past(self) -> bool
+        ensures { result ≡ is_past self }
+    {
+        matches!(self, Rule::Past)
     }
 }
 
-// Whether x lies in a range.
-fn within(low: u32, x: u32, high: u32) -> bool
-    ensures { result ≡ in_range low x high }
+// One field, from what was got at a place of a source with that size: a number that its rule admits, with the place behind it; nothing at the
+// end of the sheet; or why it is refused.
+#[tactic(auto, unfolding(crate::specs::Step::step_on))]
+fn judge(
+    got: Result<(u32, usize), Fault>,
+    size: usize,
+    at: usize,
+    rule: Rule,
+) -> Result<Option<(u32, usize)>, Why>
+    ensures { result_map_both (λ value. value) (λ why. refused why at) result ≡ step_on got size at rule }
 {
-    if low <= x { x <= high } else { false }
-}
-
-// Whether a rule admits x.
-fn allows(rule: Rule, x: u32) -> bool
-    ensures { result ≡ allowed rule x }
-{
-    match rule {
-        Rule::Range(low, high) => within(low, x, high),
-        Rule::Path(low, high) => within(low, x, high),
-        Rule::ZeroOr(low, high) => { if x == 0 { true } else { within(low, x, high) } }
-        Rule::Past => false,
+    if rule.is_past() {
+        return if at < size { Err(Why::Left) } else { Ok(None) };
+    }
+    let (x, next) = got?;
+    if rule.allows(x) {
+        Ok(Some((x, next)))
+    } else {
+        Err(rule.outside())
     }
 }
 
-// Why a number that its rule does not admit is refused.
-fn outside(rule: Rule) -> Why
-    ensures { result ≡ why_outside rule }
-{
-    match rule {
-        Rule::Range(_, _) => Why::Outside,
-        Rule::Path(_, _) => Why::OffPath,
-        Rule::ZeroOr(_, _) => Why::Outside,
-        Rule::Past => Why::Left,
-    }
-}
-
-// Whether the sheet's fields have ended.
-fn is_past(rule: Rule) -> bool
-    ensures { result ≡ is_past rule }
-{
-    match rule {
-        Rule::Range(_, _) => false,
-        Rule::Path(_, _) => false,
-        Rule::ZeroOr(_, _) => false,
-        Rule::Past => true,
-    }
-}
-
-// One field, from what was got at a place of a source with that size: for the reader and the writer alike.
-pub fn step_on(got: numbers::Got, size: usize, at: usize, rule: Rule) -> Step
+// One step, for the reader and the writer alike: one field, where a refusal names the place at which the field begins.
+pub fn step_on(
+    got: Result<(u32, usize), Fault>,
+    size: usize,
+    at: usize,
+    rule: Rule,
+) -> Result<Option<(u32, usize)>, Refusal>
     ensures { StepOn got size at rule result }
 {
-    if is_past(rule) {
-        if at < size {
-            return Step::Stop(Why::Left, at);
-        }
-        return Step::End;
-    }
-    match got {
-        numbers::Got::Number(x, next) => {
-            if allows(rule, x) {
-                Step::Value(x, next)
-            } else {
-                Step::Stop(outside(rule), at)
-            }
-        }
-        numbers::Got::Ends => Step::Stop(Why::Ends, at),
-        numbers::Got::Padded => Step::Stop(Why::Padded, at),
-        numbers::Got::Large => Step::Stop(Why::Large, at),
-    }
+    judge(got, size, at, rule).map_err(|why| Refusal { why, at })
 }
 
 // Document 01's number of a refusal.
+// Kept: a match, since two reasons have the number 2, and the numbers of variants differ.
 pub fn refusal_of(why: Why) -> u32
     ensures { RefusalOf why result }
 {
     match why {
         Why::Ends => 1,
-        Why::Padded => 2,
-        Why::Large => 2,
+        Why::Padded | Why::Large => 2,
         Why::Left => 3,
         Why::Outside => 4,
         Why::OffPath => 5,

@@ -13,7 +13,8 @@ use lib.Seq.{drop-cons}
 use lib.Dec.{eqb}
 use borrow.Author.Tests.{lt-ltb, le-ltb}
 use Rattle.ground.proofs.OrderLaws.{lt_or_ge}
-use Rattle.numbers.specs.declared.Got.TheVariants.{Number, Ends, Large}
+use Rattle.std.specs.Prelude.{Ok, Err}
+use Rattle.numbers.specs.declared.Fault.TheVariants.{Ends, Large}
 use Rattle.numbers.specs.Inside.{settled, fifth_of, Continues}
 use Rattle.numbers.specs.Seven.{Run, ends, long, run, push, scan, judge, number_at}
 
@@ -63,34 +64,29 @@ pub scan_more : (s : List ℕ) (p n : ℕ) → p < length s → 128 ≤ get_or s
     → scan (suc n) (drop p s) ≡ push (get_or s p 0 - 128) (scan n (drop (p + 1) s))
 scan_more s p n h l = rw (add-one, drop-cons s p 0) (rw (le-ltb (get_or s p 0) 128 l))
 
-pub product_cap : {b w : ℕ} → b ≤ 127 → w ≤ 2097152 → b * w ≤ 266338304
-product_cap h k = mul-le-mul h k
-
--- where the reader stands: `left` groups may come, from p on, and those passed are worth `sum`
-pub record Going (s : List ℕ) (at p left w sum : ℕ) : Type 0 where
-  pub some : 1 ≤ left
-  pub few : left ≤ 4
-  pub place : p ≡ at + (5 - left)
-  pub weight : w * 128 ^ left ≡ 34359738368
+-- where the reader stands: the groups passed, up to p, are worth `sum`, and `more` groups may follow the next
+pub record Going (s : List ℕ) (at p w sum : ℕ) : Type 0 where
+  pub more : ℕ
+  pub few : more ≤ 3
+  pub place : p + more ≡ at + 4
+  pub weight : w * 128 ^ suc more ≡ 34359738368
   pub small : sum < w
-  pub same : scan 5 (drop at s) ≡ below sum w (5 - left) (scan left (drop p s))
+  pub same : scan 5 (drop at s) ≡ below sum w (4 - more) (scan (suc more) (drop p s))
 
-pub start : (s : List ℕ) (second first : ℕ) → Continues s second first → Going s (second - 1) second 4 128 first
-start s second first c =
-    let e : second - 1 ≡ c.at = omega (arith, c.place) in
-    let d : get_or s c.at 0 - 128 ≡ first = omega (arith, c.group) in
+pub start : (s : List ℕ) (at first : ℕ) → Continues s at first → Going s at (at + 1) 128 first
+start s at first c =
+    let d : get_or s at 0 - 128 ≡ first = omega (arith, c.group) in
     let v : 0 + first * 1 ≡ first = omega arith in
-    let h : scan 5 (drop c.at s) ≡ below first 128 1 (scan 4 (drop second s)) =
-    scan_more s c.at 4 c.inside (omega (arith, c.group)) ∙ below_none (push (get_or s c.at 0 - 128) (scan 4 (drop (c.at + 1) s)))
-    ∙ rw (d, below_more, v, c.place) in
-    record { some = omega arith; few = omega arith; place = omega (arith, c.place); weight = refl; small = c.small; same = rw e h }
+    let h : scan 5 (drop at s) ≡ below first 128 1 (scan 4 (drop (at + 1) s)) =
+    scan_more s at 4 c.inside (omega (arith, c.group)) ∙ below_none (push (get_or s at 0 - 128) (scan 4 (drop (at + 1) s))) ∙ rw (d, below_more, v) in
+    record { more = 3; few = omega arith; place = omega arith; weight = refl; small = c.small; same = h }
 
 -- a number of one group, and none where the bytes have ended
-pub no_group : (s : List ℕ) (at : ℕ) → length s ≤ at → number_at s at ≡ Ends
+pub no_group : (s : List ℕ) (at : ℕ) → length s ≤ at → number_at s at ≡ Err Ends
 unfolding number_at
 no_group s at h = rw (scan_end s at 4 h)
 
-pub one_group : (s : List ℕ) (at b : ℕ) → at < length s → b ≡ get_or s at 0 → b < 128 → number_at s at ≡ Number b (at + 1)
+pub one_group : (s : List ℕ) (at b : ℕ) → at < length s → b ≡ get_or s at 0 → b < 128 → number_at s at ≡ Ok (b, at + 1)
 unfolding number_at
 one_group s at b h e l = rw (scan_last s at 4 h (omega arith), ← e, le-ltb 4294967295 b (omega arith), and-false)
 
@@ -104,11 +100,11 @@ several_groups at v k z h = rw (lt-ltb 1 k h, and_true (eqb z 0))
 
 -- the fifth group, where it stands at p: too large above 15, whether it continues or not
 module _ (s : List ℕ) (p sum : ℕ) (small : sum < 268435456) where
-  pub fifth_ends : length s ≤ p → Ends ≡ fifth_of sum p (scan 1 (drop p s))
+  pub fifth_ends : length s ≤ p → Err Ends ≡ fifth_of sum p (scan 1 (drop p s))
   fifth_ends h = rw (scan_end s p 0 h)
 
   module _ (b : ℕ) (inside : p < length s) (e : b ≡ get_or s p 0) where
-    pub fifth_large : 15 < b → Large ≡ fifth_of sum p (scan 1 (drop p s))
+    pub fifth_large : 15 < b → Err Large ≡ fifth_of sum p (scan 1 (drop p s))
     fifth_large h =
         ⊎_elim
         (λ (l : b < 128).
@@ -128,55 +124,56 @@ fifth_by at p sum (run v k z) e =
     let q : at + (4 + k) ≡ p + k = omega arith in
     several_groups at (sum + 268435456 * v) (4 + k) z (omega arith) ∙ rw q
 
+cap_of : (w more : ℕ) → 1 ≤ more → w * 128 ^ suc more ≡ 34359738368 → w ≤ 2097152
+cap_of w zero h e = absurd (omega arith)
+cap_of w (suc n) h e =
+    let a : w * 128 * 128 ^ suc n ≡ 34359738368 = weight_next w (suc n) e in
+    let b : w * 128 ≤ 268435456 = weight_cap (w * 128) n a in
+    omega arith
+
+product_cap : {b w : ℕ} → b ≤ 127 → w ≤ 2097152 → b * w ≤ 266338304
+product_cap h k = mul-le-mul h k
+
+-- what the reader knows before the group at p
 module _ {s : List ℕ} {at p w sum : ℕ} where
-  pub cap : (left : ℕ) → Going s at p left w sum → 1 < left → w ≤ 2097152
-  cap zero g h = absurd (omega arith)
-  cap (suc zero) g h = absurd (omega arith)
-  cap (suc (suc n)) g h =
-      let a : w * 128 * 128 ^ suc n ≡ 34359738368 = weight_next w (suc n) g.weight in
-      let b : w * 128 ≤ 268435456 = weight_cap (w * 128) n a in
-      omega arith
+  pub cap : Going s at p w sum → p < at + 4 → w ≤ 2097152
+  cap g h = cap_of w g.more (omega (arith, g.place)) g.weight
 
-  pub at_end : (left : ℕ) → Going s at p left w sum → 1 < left → length s ≤ p → number_at s at ≡ Ends
+  -- what a group adds, whether it says that another follows or not
+  pub product : {b : ℕ} → Going s at p w sum → p < at + 4 → b < 128 → b * w ≤ 266338304
+  product g h l = product_cap (omega arith) (cap g h)
+
+  pub at_end : Going s at p w sum → length s ≤ p → number_at s at ≡ Err Ends
   unfolding number_at
-  at_end zero g h l = absurd (omega arith)
-  at_end (suc n) g h l = rw (g.same, scan_end s p n l)
+  at_end g h = rw (g.same, scan_end s p g.more h)
 
-  -- where one group may still come it is the fifth
-  pub last_weight : (left : ℕ) → Going s at p left w sum → left ≤ 1 → w ≡ 268435456
-  last_weight zero g h = absurd (omega (arith, g.some))
-  last_weight (suc zero) g h = omega (arith, g.weight)
-  last_weight (suc (suc n)) g h = absurd (omega arith)
-
-  pub last_left : (left : ℕ) → Going s at p left w sum → left ≤ 1 → number_at s at ≡ fifth_of sum p (scan 1 (drop p s))
+  pub done : (b : ℕ) → Going s at p w sum → p < length s → b ≡ get_or s p 0 → b < 128 → number_at s at ≡ settled (sum + b * w) b (p + 1)
   unfolding number_at
-  last_left zero g h = absurd (omega (arith, g.some))
-  last_left (suc zero) g h =
-      let e : w ≡ 268435456 = last_weight 1 g h in
-      rw (g.same, e) (fifth_by at p sum (scan 1 (drop p s)) (omega (arith, g.place)))
-  last_left (suc (suc n)) g h = absurd (omega arith)
+  done b g l e k =
+      let q : at + (4 - g.more + 1) ≡ p + 1 = omega (arith, g.place, g.few) in
+      rw (g.same, scan_last s p g.more l (omega arith), ← e, mul_comm w b)
+      (several_groups at (sum + b * w) (4 - g.more + 1) b (omega (arith, g.few)) ∙ rw q)
 
-  pub done : (left b : ℕ) → Going s at p left w sum → 1 < left → p < length s → b ≡ get_or s p 0 → b < 128
-      → number_at s at ≡ settled (sum + b * w) b (p + 1)
-  unfolding number_at
-  done zero b g h l e k = absurd (omega arith)
-  done (suc n) b g h l e k =
-      let q : 5 - suc n + 1 ≡ 6 - suc n = omega (arith, g.few) in
-      let r : at + (6 - suc n) ≡ p + 1 = omega (arith, g.place, g.few) in
-      rw (g.same, scan_last s p n l (omega arith), ← e, mul_comm w b, q) (several_groups at (sum + b * w) (6 - suc n) b (omega (arith, g.few)) ∙ rw r)
-
-  pub turn : (left b : ℕ) → Going s at p left w sum → 1 < left → p < length s → b ≡ get_or s p 0 → 128 ≤ b → b < 256
-      → Going s at (p + 1) (left - 1) (w * 128) (sum + (b - 128) * w)
-  turn zero b g h l e k u = absurd (omega arith)
-  turn (suc n) b g h l e k u =
-      let q : suc n - 1 ≡ n = omega arith in
-      let j : 5 - suc n + 1 ≡ 5 - n = omega (arith, g.few) in
+  pub turn : (b : ℕ) → Going s at p w sum → p < at + 4 → p < length s → b ≡ get_or s p 0 → 128 ≤ b → b < 256
+      → Going s at (p + 1) (w * 128) (sum + (b - 128) * w)
+  turn b g h l e k u =
+      let q : suc (g.more - 1) ≡ g.more = omega (arith, g.place) in
+      let j : 4 - g.more + 1 ≡ 4 - (g.more - 1) = omega (arith, g.place, g.few) in
       let m : (b - 128) * w ≤ 127 * w = mul-le-mul_right w (omega arith) in
-      rw q (record {
-        some = omega arith;
+      record {
+        more = g.more - 1;
         few = omega (arith, g.few);
-        place = omega (arith, g.place, g.few);
-        weight = weight_next w n g.weight;
+        place = omega (arith, g.place);
+        weight = rw q (weight_next w g.more g.weight);
         small = omega (arith, g.small);
-        same = g.same ∙ rw (scan_more s p n l (omega arith), ← e, below_more, j);
-      })
+        same = rw q (g.same ∙ rw (scan_more s p g.more l (omega arith), ← e, below_more, j));
+      }
+
+  -- behind four groups the fifth is left
+  pub last : Going s at p w sum → at + 4 ≤ p → number_at s at ≡ fifth_of sum (at + 4) (scan 1 (drop (at + 4) s))
+  unfolding number_at
+  last g h =
+      let z : g.more ≡ 0 = omega (arith, g.place) in
+      let t : p ≡ at + 4 = omega (arith, g.place) in
+      let v : w ≡ 268435456 = omega (arith, rw z at g.weight) in
+      rw (rw (z, t, v) at g.same) (fifth_by at (at + 4) sum (scan 1 (drop (at + 4) s)) refl)

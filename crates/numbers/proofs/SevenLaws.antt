@@ -1,14 +1,14 @@
 -- Laws of the seven-bit number: how many bytes it takes, that what was written is read back, that what was read is written back
 -- byte for byte, and that reading looks at no byte behind the number.
 -- Assumes nothing.
-use Rattle.std.specs.Prelude.{ℕ, zero, suc, ◌+◌, ◌-◌, ◌*◌, ◌/◌, ◌%◌, ◌^◌, ◌≤◌, ◌<◌, ◌≡◌, refl, ◌⊎◌, List, [], ◌∷◌, ◌++◌, cond, length, get_or, take, drop, ltb}
+use Rattle.std.specs.Prelude.{ℕ, zero, suc, ◌+◌, ◌-◌, ◌*◌, ◌/◌, ◌%◌, ◌^◌, ◌≤◌, ◌<◌, ◌≡◌, refl, ◌⊎◌, List, [], ◌∷◌, ◌++◌, Result, Ok, cond, length, get_or, take, drop, ltb}
 use Rattle.std.proofs.Common.{sym, ap, ◌∙◌, inl, inr, ⊎_elim, add-one, arith, length-drop, get_or-drop, length-take-le, take-take, lt-ltb, le-ltb, ne_eqb, eq-eqb}
 use Rattle.std.proofs.Math.Bool.{and-false}
 use Rattle.std.proofs.Math.Seq.{drop-append_seam}
 use Rattle.ground.proofs.OrderLaws.{lt_or_ge}
 use Rattle.ground.specs.Base.{width}
 use Rattle.ground.proofs.BaseLaws.{below_power, width_some, width_few, width_most, width_least}
-use Rattle.numbers.specs.declared.Got.TheVariants.{Number}
+use Rattle.numbers.specs.declared.Fault.{Fault}
 use Rattle.numbers.specs.Seven.{Run, ends, long, run, push, scan, judge, number_at, groups, encode}
 
 -- The groups of a number, one by one.
@@ -85,7 +85,7 @@ scan_groups (suc n) x t h =
     rw (le-ltb x 128 g, le-ltb (x % 128 + 128) 128 u, scan_groups n (x / 128) t b, q, add-one))
     (lt_or_ge x 128)
 
-judge_fine : (at v k z : ℕ) → v < 4294967296 → (k ≡ 1) ⊎ (0 < z) → judge at (run v k z) ≡ Number v (at + k)
+judge_fine : (at v k z : ℕ) → v < 4294967296 → (k ≡ 1) ⊎ (0 < z) → judge at (run v k z) ≡ Ok (v, at + k)
 judge_fine at v k z h (inl e) = rw (e, le-ltb 4294967295 v (omega arith), and-false)
 judge_fine at v k z h (inr l) = rw (le-ltb 4294967295 v (omega arith), ne_eqb z 0 (λ e. omega arith))
 
@@ -93,7 +93,7 @@ one_or_top : (x : ℕ) → (length (groups 5 x) ≡ 1) ⊎ (0 < top 5 x)
 one_or_top x = ⊎_elim (λ l. inl (rw (lt-ltb x 128 l))) (λ g. inr (top_some 5 x (omega arith))) (lt_or_ge x 128)
 
 pub read_written : (a : List ℕ) (x : ℕ) (b : List ℕ) → x < 4294967296
-    → number_at (a ++ (encode x ++ b)) (length a) ≡ Number x (length a + length (encode x))
+    → number_at (a ++ (encode x ++ b)) (length a) ≡ Ok (x, length a + length (encode x))
 unfolding number_at encode
 read_written a x b h =
     rw (drop-append_seam, scan_groups 4 x b (omega arith)) (judge_fine (length a) x (length (groups 5 x)) (top 5 x) h (one_or_top x))
@@ -115,8 +115,8 @@ record Pushed (d : ℕ) (r : Run) (v k z : ℕ) : Type 0 where
   count : k ≡ k' + 1
 
 pushed : (d : ℕ) (r : Run) (v k z : ℕ) → push d r ≡ run v k z → Pushed d r v k z
-pushed d ends v k z e = let q : ◌≡◌ {A = ℕ} 0 1 = cc in absurd (omega arith)
-pushed d long v k z e = let q : ◌≡◌ {A = ℕ} 0 1 = cc in absurd (omega arith)
+pushed d ends v k z e = absurd (cc)
+pushed d long v k z e = absurd (cc)
 pushed d (run v' k' z') v k z e = record { v' = v'; k' = k'; was = cc; value = cc; count = cc }
 
 -- what a scan found: its groups stand at the front of the list, and where they are shortest they are those of the value
@@ -151,8 +151,8 @@ scanned_more n b s v k z v' k' g u ev ek i =
         rw (ek, add-one, groups_more n v big, low, high, i.back (inr h))
 
 scanned : (n : ℕ) (s : List ℕ) (v k z : ℕ) → Bytes s → scan n s ≡ run v k z → Scanned n s v k z
-scanned zero s v k z h e = let q : ◌≡◌ {A = ℕ} 0 1 = cc in absurd (omega arith)
-scanned (suc n) [] v k z h e = let q : ◌≡◌ {A = ℕ} 0 1 = cc in absurd (omega arith)
+scanned zero s v k z h e = absurd (cc)
+scanned (suc n) [] v k z h e = absurd (cc)
 scanned (suc n) (b ∷ s) v k z h e =
     ⊎_elim (λ l. scanned_last n b s v k z l (rw (lt-ltb b 128 l) at e))
     (λ g.
@@ -170,10 +170,10 @@ record Accepted (at : ℕ) (r : Run) (x next : ℕ) : Type 0 where
   fits : x < 4294967296
   shortest : (k ≤ 1) ⊎ (0 < z)
 
-accepted_run : (at v k z x next : ℕ) → judge at (run v k z) ≡ Number x next → Accepted at (run v k z) x next
+accepted_run : (at v k z x next : ℕ) → judge at (run v k z) ≡ Ok (x, next) → Accepted at (run v k z) x next
 accepted_run at v k z x next e =
     ⊎_elim
-    (λ (m : 4294967295 < v). let q : ◌≡◌ {A = ℕ} 0 1 = cc (rw (lt-ltb 4294967295 v m) at e) in absurd (omega arith))
+    (λ (m : 4294967295 < v). absurd (cc (rw (lt-ltb 4294967295 v m) at e)))
     (λ (f : v ≤ 4294967295).
     let e₁ = rw (le-ltb 4294967295 v f) at e in
     ⊎_elim
@@ -181,18 +181,21 @@ accepted_run at v k z x next e =
     (λ (o : z ≤ 0).
     let e₂ = rw (eq-eqb z 0 (omega arith)) at e₁ in
     ⊎_elim
-    (λ (m : 1 < k). let q : ◌≡◌ {A = ℕ} 0 1 = cc (rw (lt-ltb 1 k m) at e₂) in absurd (omega arith))
+    (λ (m : 1 < k). absurd (cc (rw (lt-ltb 1 k m) at e₂)))
     (λ (l : k ≤ 1). good f (inl l) (rw (le-ltb 1 k l) at e₂))
     (lt_or_ge 1 k))
     (lt_or_ge 0 z))
     (lt_or_ge 4294967295 v)
   where
-    good : v ≤ 4294967295 → (k ≤ 1) ⊎ (0 < z) → Number v (at + k) ≡ Number x next → Accepted at (run v k z) x next
-    good f o q = let ex : v ≡ x = cc in record { k = k; z = z; was = cc; place = cc; fits = omega arith; shortest = o }
+    good : v ≤ 4294967295 → (k ≤ 1) ⊎ (0 < z) → ◌≡◌ {A = Result (ℕ × ℕ) Fault} (Ok (v, at + k)) (Ok (x, next)) → Accepted at (run v k z) x next
+    good f o q =
+        let pair : ◌≡◌ {A = ℕ × ℕ} (v, at + k) (x, next) = cc in
+        let ex = ap (λ (p : ℕ × ℕ). p.0) pair in
+        record { k = k; z = z; was = cc; place = sym (ap (λ (p : ℕ × ℕ). p.1) pair); fits = omega arith; shortest = o }
 
-accepted : (at : ℕ) (r : Run) (x next : ℕ) → judge at r ≡ Number x next → Accepted at r x next
-accepted at ends x next e = let q : ◌≡◌ {A = ℕ} 0 1 = cc in absurd (omega arith)
-accepted at long x next e = let q : ◌≡◌ {A = ℕ} 0 1 = cc in absurd (omega arith)
+accepted : (at : ℕ) (r : Run) (x next : ℕ) → judge at r ≡ Ok (x, next) → Accepted at r x next
+accepted at ends x next e = absurd (cc)
+accepted at long x next e = absurd (cc)
 accepted at (run v k z) x next e = accepted_run at v k z x next e
 
 -- what is known of a number that was read: it fits, and the bytes between its place and the place behind it are just its own
@@ -203,7 +206,7 @@ pub record WasRead (s : List ℕ) (at x next : ℕ) : Type 0 where
   pub within : next ≤ length s
   pub bytes : take (length (encode x)) (drop at s) ≡ encode x
 
-pub written_read : (s : List ℕ) (at x next : ℕ) → Bytes s → number_at s at ≡ Number x next → WasRead s at x next
+pub written_read : (s : List ℕ) (at x next : ℕ) → Bytes s → number_at s at ≡ Ok (x, next) → WasRead s at x next
 unfolding number_at encode
 written_read s at x next h e =
     let a : Accepted at (scan 5 (drop at s)) x next = accepted at (scan 5 (drop at s)) x next e in
@@ -241,13 +244,13 @@ read_front s at m h = read_five (take m s) s at (part_front 5 at m s h)
 
 -- a list that begins as another does
 same_head : (k b : ℕ) (s s' : List ℕ) → take (suc k) (b ∷ s) ≡ take (suc k) s' → (t : List ℕ) × ((s' ≡ b ∷ t) × (take k s ≡ take k t))
-same_head k b s [] e = let q : ◌≡◌ {A = ℕ} 0 1 = cc in absurd (omega arith)
+same_head k b s [] e = absurd (cc)
 same_head k b s (b' ∷ t) e = (t, (cc, cc))
 
 -- a whole run of groups does not end with its list, so what follows does not matter
 scan_only : (n : ℕ) (s s' : List ℕ) (v k z : ℕ) → scan n s ≡ run v k z → take k s ≡ take k s' → scan n s' ≡ run v k z
 scan_only zero s s' v k z e f = e
-scan_only (suc n) [] s' v k z e f = let q : ◌≡◌ {A = ℕ} 0 1 = cc in absurd (omega arith)
+scan_only (suc n) [] s' v k z e f = absurd (cc)
 scan_only (suc n) (b ∷ s) s' v k z e f =
     ⊎_elim
     (λ (l : b < 128).
@@ -264,8 +267,8 @@ scan_only (suc n) (b ∷ s) s' v k z e f =
     (lt_or_ge b 128)
 
 -- the bytes up to the place behind a number are all that it was read from
-pub read_no_further : (s s' : List ℕ) (at x n : ℕ) → number_at s at ≡ Number x (at + n) → take n (drop at s) ≡ take n (drop at s')
-    → number_at s' at ≡ Number x (at + n)
+pub read_no_further : (s s' : List ℕ) (at x n : ℕ) → number_at s at ≡ Ok (x, at + n) → take n (drop at s) ≡ take n (drop at s')
+    → number_at s' at ≡ Ok (x, at + n)
 unfolding number_at
 read_no_further s s' at x n e f =
     let a : Accepted at (scan 5 (drop at s)) x (at + n) = accepted at (scan 5 (drop at s)) x (at + n) e in

@@ -1,11 +1,11 @@
 -- Each public function's contract leaves one possible result, and one possible content of each lent buffer, for every input.
 -- Assumes nothing.
-use Rattle.std.specs.Prelude.{ℕ, ◌≡◌, List}
+use Rattle.std.specs.Prelude.{ℕ, ◌≡◌, List, Result}
 use Rattle.ground.proofs.ValueLaws.{one_value}
-use Rattle.numbers.specs.declared.Got.{Got}
+use Rattle.numbers.specs.declared.Fault.{Fault}
 use Rattle.numbers.specs.Contract.{ReadNumber, Width, PutNumber}
 
-pub read_number_unique : (bytes : List ℕ) (at : ℕ) (r r' : Got) → ReadNumber bytes at r → ReadNumber bytes at r' → r ≡ r'
+pub read_number_unique : (bytes : List ℕ) (at : ℕ) (r r' : Result (ℕ × ℕ) Fault) → ReadNumber bytes at r → ReadNumber bytes at r' → r ≡ r'
 read_number_unique bytes at r r' p q = one_value p.is q.is
 
 pub width_unique : (x r r' : ℕ) → Width x r → Width x r' → r ≡ r'

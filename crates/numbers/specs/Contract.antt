@@ -1,12 +1,12 @@
 -- What each public function promises of its result and of the buffer lent to it, for every input.
 -- Assumes nothing.
-use Rattle.std.specs.Prelude.{ℕ, ◌+◌, ◌≡◌, List, length}
+use Rattle.std.specs.Prelude.{ℕ, ◌+◌, ◌≡◌, List, Result, length}
 use Rattle.std.proofs.lemmas.List.Edits.{sets}
-use Rattle.numbers.specs.declared.Got.{Got}
+use Rattle.numbers.specs.declared.Fault.{Fault}
 use Rattle.numbers.specs.Seven.{number_at, encode}
 
-pub record ReadNumber (bytes : List ℕ) (at : ℕ) (r : Got) : Type 0 where
-  -- the number that begins at the place, or why there is none
+pub record ReadNumber (bytes : List ℕ) (at : ℕ) (r : Result (ℕ × ℕ) Fault) : Type 0 where
+  -- the number that begins at the place and the place behind it, or why there is none
   pub is : r ≡ number_at bytes at
 
 pub record Width (x r : ℕ) : Type 0 where

@@ -2,16 +2,15 @@
 
 #![tactic(auto)]
 
-ghost use Rattle.std.specs.Prelude.{◌≡◌, ◌+◌, ◌-◌, ◌≤◌, ◌<◌, length, drop};
+ghost use Rattle.std.specs.Prelude.{◌≡◌, ◌+◌, ◌≤◌, ◌<◌, length, get_or, drop};
+ghost use Rattle.std.specs.Result.{MatchResult};
 ghost use Rattle.numbers.specs.Seven.{scan, number_at, encode};
 ghost use Rattle.numbers.specs.Inside.{settled, fifth_of, Continues};
 ghost use Rattle.numbers.specs.Contract.{ReadNumber, Width, PutNumber};
 
-// What stands at a place of a byte string. Document 01 gives `Padded` and `Large` one number, 2; they are told apart here.
-#[derive(Clone, Copy)]
-pub enum Got {
-    // A number, and the place behind it.
-    Number(u32, usize),
+// Why no number stands at a place of a byte string. Document 01 gives `Padded` and `Large` one number, 2; they are told apart here.
+#[derive(Clone, Copy, PartialEq, Eq)]
+pub enum Fault {
     // The bytes end inside it.
     Ends,
     // Not the shortest form.
@@ -20,76 +19,66 @@ pub enum Got {
     Large,
 }
 
-// A byte as a wider number.
-fn wide(x: u8) -> u64
-    ensures { result ≡ x }
+// The group at a place.
+fn group_at(bytes: &[u8], p: usize) -> Result<u64, Fault>
+    ensures { MatchResult result (λ b. (p < length bytes.now) × (b ≡ get_or bytes.now p 0) × (b < 256)) (λ fault. (length bytes.now ≤ p) × (fault ≡ Fault.Ends)) }
 {
-    x as u64
+    match bytes.get(p) {
+        Some(b) => Ok(u64::from(*b)),
+        None => Err(Fault::Ends),
+    }
 }
 
 // The answer for a number of several groups that is not too large: its value, the last group, and the place behind it.
-fn settle(value: u64, last: u64, next: usize) -> Got
+fn settle(value: u64, last: u64, next: usize) -> Result<(u32, usize), Fault>
     requires { value < 4294967296 }
     ensures { result ≡ settled value last next }
 {
     if last == 0 {
-        return Got::Padded;
+        return Err(Fault::Padded);
     }
-    Got::Number(value as u32, next)
+    Ok((value as u32, next))
 }
 
 // The number whose fifth group, the last that it may have, stands at a place, where the four before it are worth `sum`.
-fn fifth(bytes: &[u8], p: usize, sum: u64) -> Got
+fn fifth(bytes: &[u8], p: usize, sum: u64) -> Result<(u32, usize), Fault>
     requires { sum < 268435456 }
     ensures { result ≡ fifth_of sum p (scan 1 (drop p bytes.now)) }
 {
-    if bytes.len() <= p {
-        return Got::Ends;
-    }
-    let b = wide(bytes[p]);
+    let b = group_at(bytes, p)?;
     if 15 < b {
-        return Got::Large;
+        return Err(Fault::Large);
     }
     settle(sum + b * 268435456, b, p + 1)
 }
 
-// The number whose first group is worth `first` and says that another follows, from the place of its second group on.
-fn several(bytes: &[u8], second: usize, first: u64) -> Got
-    requires { Continues bytes.now second first }
-    ensures { result ≡ number_at bytes.now (second - 1) }
+// The number at a place whose first group is worth `first` and says that another follows.
+fn several(bytes: &[u8], at: usize, first: u64) -> Result<(u32, usize), Fault>
+    requires { Continues bytes.now at first }
+    ensures { result ≡ number_at bytes.now at }
 {
-    let mut p = second;
-    let mut left: usize = 4;
     let mut weight: u64 = 128;
     let mut sum = first;
-    while 1 < left {
-        if bytes.len() <= p {
-            return Got::Ends;
-        }
-        let b = wide(bytes[p]);
+    for p in at + 1..at + 4 {
+        let b = group_at(bytes, p)?;
         if b < 128 {
             return settle(sum + b * weight, b, p + 1);
         }
-        sum = sum + (b - 128) * weight;
-        weight = weight * 128;
-        left = left - 1;
-        p = p + 1;
+        sum += (b - 128) * weight;
+        weight *= 128;
     }
-    fifth(bytes, p, sum)
+    fifth(bytes, at + 4, sum)
 }
 
 // The number that begins at a place, with the place behind it, or why there is none.
-pub fn read_number(bytes: &[u8], at: usize) -> Got
+pub fn read_number(bytes: &[u8], at: usize) -> Result<(u32, usize), Fault>
     ensures { ReadNumber bytes.now at result }
 {
-    if bytes.len() <= at {
-        return Got::Ends;
-    }
-    let b = wide(bytes[at]);
+    let b = group_at(bytes, at)?;
     if b < 128 {
-        return Got::Number(b as u32, at + 1);
+        return Ok((b as u32, at + 1));
     }
-    several(bytes, at + 1, b - 128)
+    several(bytes, at, b - 128)
 }
 
 // How many bytes a number takes.
@@ -115,12 +104,14 @@ pub fn put_number(x: u32, buf: &mut [u8], at: usize) -> usize
     ensures { PutNumber x buf.old at result buf.new }
 {
     let mut rest = x;
-    let mut p = at;
-    while 128 <= rest {
+    for p in at..at + 4 {
+        if rest < 128 {
+            buf[p] = rest as u8;
+            return p + 1;
+        }
         buf[p] = (rest % 128 + 128) as u8;
-        rest = rest / 128;
-        p = p + 1;
+        rest /= 128;
     }
-    buf[p] = rest as u8;
-    p + 1
+    buf[at + 4] = rest as u8;
+    at + 5
 }

@@ -1,21 +1,21 @@
 -- Which byte strings are sheets: just the bytes of the lists that document 01's table admits, and each is read as its own list. And which refusals
 -- the reader and the writer give.
 -- Assumes nothing.
-use Rattle.std.specs.Prelude.{ℕ, zero, suc, ◌+◌, ◌≤◌, ◌≡◌, Bool, true, false, cond, List, ltb, length, get_or}
+use Rattle.std.specs.Prelude.{ℕ, zero, suc, ◌+◌, ◌≤◌, ◌≡◌, Bool, true, false, cond, List, Option, Some, None, Result, Ok, Err, ltb, length, get_or}
 use Rattle.std.proofs.Common.{ap, ◌∙◌, subst, arith}
 use Rattle.numbers.specs.Seven.{number_at}
 use Rattle.numbers.proofs.SevenLaws.{Bytes}
-use Rattle.numbers.specs.declared.Got.{Got}
-use Rattle.numbers.specs.declared.Got.TheVariants as got
+use Rattle.numbers.specs.declared.Fault.{Fault}
+use Rattle.numbers.specs.declared.Fault.TheVariants as fault
 use Rattle.fields.specs.declared.User.{User}
 use Rattle.fields.specs.declared.User.TheVariants.{Reader, Writer}
 use Rattle.fields.specs.declared.Rule.{Rule}
 use Rattle.fields.specs.declared.Rule.TheVariants.{Range, Path, ZeroOr, Past}
 use Rattle.fields.specs.declared.Why.{Why}
-use Rattle.fields.specs.declared.Why.TheVariants.{Ends, Padded, Large, Left}
-use Rattle.fields.specs.declared.Step.TheVariants.{Value, Stop, End}
+use Rattle.fields.specs.declared.Why.TheVariants.{Ends, Left}
+use Rattle.fields.specs.declared.Refusal.{Refusal}
 use Rattle.fields.specs.Rule.{most, Seen, nothing, rule_at, seen_after, allowed, why_outside, is_past}
-use Rattle.fields.specs.Refusal.{refusal}
+use Rattle.fields.specs.Refusal.{refusal, refused, why_of}
 use Rattle.fields.specs.Step.{admit, step_on}
 use Rattle.sheet.specs.Sheet.{fail, these, walk, entry_at, sheet_of, list_of}
 use Rattle.sheet.specs.Valid.{IsSheet}
@@ -31,8 +31,8 @@ pub sheet_is_read : (s xs : List ℕ) → IsSheet s xs → sheet_of s ≡ these 
 sheet_is_read s xs h = rw (← h.bytes) (valid_read xs (valid_words xs h.valid) h.valid)
 
 -- which refusals a walk over the fields gives: what holds of each refusal of a step holds of the walk's
-module _ (P : Why → Type 0) (u : User) (source : ℕ → Got) (size : ℕ) (left : P Left)
-    (of-step : (at : ℕ) (r : Rule) (w : Why) (d : ℕ) → step_on (source at) size at r ≡ Stop w d → P w) where
+module _ (P : Why → Type 0) (u : User) (source : ℕ → Result (ℕ × ℕ) Fault) (size : ℕ) (left : P Left)
+    (of-step : (at : ℕ) (r : Rule) (w : Why) (d : ℕ) → step_on (source at) size at r ≡ Err (refused w d) → P w) where
   stopped_why : (k at i : ℕ) (e : Seen) (w : Why) (d : ℕ) → Stopped u source size k at i e w d
       → ((next : ℕ) (e' : Seen) → walk u source size k next (i + 1) e' ≡ fail w d → P w) → P w
   stopped_why k at i e w d (behind x next v h) go = go next (seen_after e i x) h
@@ -53,19 +53,27 @@ outside_known (Path low high) = (omega arith, omega arith)
 outside_known (ZeroOr low high) = (omega arith, omega arith)
 outside_known Past = (omega arith, omega arith)
 
-known_by : (p l : Bool) (g : Got) (at : ℕ) (r : Rule) (w : Why) (d : ℕ) → cond p (cond l (Stop Left at) End) (admit g at r) ≡ Stop w d → Known w
-known_by true true g at r w d e = let q : Left ≡ w = cc in subst Known q (omega arith, omega arith)
-known_by true false g at r w d e = let q : ◌≡◌ {A = ℕ} 0 1 = cc in absurd (omega arith)
-known_by false l got.Ends at r w d e = let q : Ends ≡ w = cc in subst Known q (omega arith, omega arith)
-known_by false l got.Padded at r w d e = let q : Padded ≡ w = cc in subst Known q (omega arith, omega arith)
-known_by false l got.Large at r w d e = let q : Large ≡ w = cc in subst Known q (omega arith, omega arith)
-known_by false l (got.Number x next) at r w d e = by (allowed r x) e
-  where
-    by : (a : Bool) → cond a (Value x next) (Stop (why_outside r) at) ≡ Stop w d → Known w
-    by true e = let q : ◌≡◌ {A = ℕ} 0 1 = cc in absurd (omega arith)
-    by false e = let q : why_outside r ≡ w = cc in subst Known q (outside_known r)
+fault_known : (f : Fault) → Known (why_of f)
+fault_known fault.Ends = (omega arith, omega arith)
+fault_known fault.Padded = (omega arith, omega arith)
+fault_known fault.Large = (omega arith, omega arith)
 
-step_known : (g : Got) (size at : ℕ) (r : Rule) (w : Why) (d : ℕ) → step_on g size at r ≡ Stop w d → Known w
+-- one refusal has one reason
+same_why : {k : Refusal} {w : Why} {d : ℕ} → ◌≡◌ {A = Result (Option (ℕ × ℕ)) Refusal} (Err k) (Err (refused w d)) → k.why ≡ w
+same_why {k} {w} {d} e = let q : k ≡ refused w d = cc in ap (λ (f : Refusal). f.why) q
+
+known_by : (p l : Bool) (g : Result (ℕ × ℕ) Fault) (at : ℕ) (r : Rule) (w : Why) (d : ℕ)
+    → cond p (cond l (Err (refused Left at)) (Ok None)) (admit g at r) ≡ Err (refused w d) → Known w
+known_by true true g at r w d e = subst Known (same_why e) (omega arith, omega arith)
+known_by true false g at r w d e = absurd (cc)
+known_by false l (Err f) at r w d e = subst Known (same_why e) (fault_known f)
+known_by false l (Ok (x, next)) at r w d e = by (allowed r x) e
+  where
+    by : (a : Bool) → cond {A = Result (Option (ℕ × ℕ)) Refusal} a (Ok (Some (x, next))) (Err (refused (why_outside r) at)) ≡ Err (refused w d) → Known w
+    by true e = absurd (cc)
+    by false e = subst Known (same_why e) (outside_known r)
+
+step_known : (g : Result (ℕ × ℕ) Fault) (size at : ℕ) (r : Rule) (w : Why) (d : ℕ) → step_on g size at r ≡ Err (refused w d) → Known w
 unfolding step_on
 step_known g size at r w d e = known_by (is_past r) (ltb at size) g at r w d e
 
@@ -87,17 +95,18 @@ outside_plain (ZeroOr low high) h = omega arith
 outside_plain Past h = omega arith
 
 plain_by : (p l t : Bool) (x next at : ℕ) (r : Rule) (w : Why) (d : ℕ)
-    → cond p (cond l (Stop Left at) End) (admit (cond t (got.Number x next) got.Ends) at r) ≡ Stop w d → refusal w ≡ 2 → ⊥
-plain_by true true t x next at r w d e h = let q : Left ≡ w = cc in let n : refusal Left ≡ 2 = ap refusal q ∙ h in omega arith
-plain_by true false t x next at r w d e h = let q : ◌≡◌ {A = ℕ} 0 1 = cc in omega arith
-plain_by false l false x next at r w d e h = let q : Ends ≡ w = cc in let n : refusal Ends ≡ 2 = ap refusal q ∙ h in omega arith
+    → cond p (cond l (Err (refused Left at)) (Ok None)) (admit (cond {A = Result (ℕ × ℕ) Fault} t (Ok (x, next)) (Err fault.Ends)) at r) ≡ Err (refused w d)
+    → refusal w ≡ 2 → ⊥
+plain_by true true t x next at r w d e h = let n : refusal Left ≡ 2 = ap refusal (same_why e) ∙ h in omega arith
+plain_by true false t x next at r w d e h = cc
+plain_by false l false x next at r w d e h = let n : refusal Ends ≡ 2 = ap refusal (same_why e) ∙ h in omega arith
 plain_by false l true x next at r w d e h = by (allowed r x) e
   where
-    by : (a : Bool) → cond a (Value x next) (Stop (why_outside r) at) ≡ Stop w d → ⊥
-    by true e = let q : ◌≡◌ {A = ℕ} 0 1 = cc in omega arith
-    by false e = let q : why_outside r ≡ w = cc in outside_plain r (ap refusal q ∙ h)
+    by : (a : Bool) → cond {A = Result (Option (ℕ × ℕ)) Refusal} a (Ok (Some (x, next))) (Err (refused (why_outside r) at)) ≡ Err (refused w d) → ⊥
+    by true e = cc
+    by false e = outside_plain r (ap refusal (same_why e) ∙ h)
 
-entry_plain : (xs : List ℕ) (at : ℕ) (r : Rule) (w : Why) (d : ℕ) → step_on (entry_at xs at) (length xs) at r ≡ Stop w d → Plain w
+entry_plain : (xs : List ℕ) (at : ℕ) (r : Rule) (w : Why) (d : ℕ) → step_on (entry_at xs at) (length xs) at r ≡ Err (refused w d) → Plain w
 unfolding step_on
 entry_plain xs at r w d s = (
   step_known (entry_at xs at) (length xs) at r w d s,

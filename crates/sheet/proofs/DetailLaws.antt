@@ -1,15 +1,14 @@
 -- How far a refusal's place, the count of a sheet's numbers and the length of its bytes reach: every detail is below 2^32.
 -- Assumes nothing.
-use Rattle.std.specs.Prelude.{ℕ, zero, suc, ◌+◌, ◌*◌, ◌≤◌, ◌<◌, ◌≡◌, refl, List, [], ◌∷◌, Bool, true, false, cond, length, ltb}
+use Rattle.std.specs.Prelude.{ℕ, zero, suc, ◌+◌, ◌*◌, ◌≤◌, ◌<◌, ◌≡◌, refl, List, [], ◌∷◌, Bool, true, false, Result, Ok, Err, cond, length, ltb}
 use Rattle.std.proofs.Common.{mul-suc, arith, length-append}
 use Rattle.numbers.specs.Seven.{number_at}
 use Rattle.numbers.proofs.SevenLaws.{Bytes, WasRead, written_read, encode_few}
-use Rattle.numbers.specs.declared.Got.{Got}
-use Rattle.numbers.specs.declared.Got.TheVariants as got
+use Rattle.numbers.specs.declared.Fault.{Fault}
 use Rattle.fields.specs.Rule.{Seen, most, rule_at, seen_after, nothing}
 use Rattle.fields.specs.declared.User.{User}
 use Rattle.fields.specs.declared.User.TheVariants.{Reader, Writer}
-use Rattle.fields.specs.declared.Outcome.TheVariants.{Done, Refused}
+use Rattle.fields.specs.Refusal.{refused}
 use Rattle.fields.specs.declared.Why.{Why}
 use Rattle.fields.specs.declared.Why.TheVariants.{Short}
 use Rattle.fields.specs.Refusal.{detail}
@@ -21,8 +20,8 @@ use Rattle.sheet.proofs.WalkLaws.{Walked, gave, ended, walked, walk_none, Stoppe
 
 -- How far a number reaches in a source: five bytes at most in a byte string, one entry in a list.
 
-abbrev pub Reaches : ℕ → (ℕ → Got) → Type 0
-Reaches w source = (at x next : ℕ) → source at ≡ got.Number x next → next ≤ at + w
+abbrev pub Reaches : ℕ → (ℕ → Result (ℕ × ℕ) Fault) → Type 0
+Reaches w source = (at x next : ℕ) → source at ≡ Ok (x, next) → next ≤ at + w
 
 pub bytes_reach : (s : List ℕ) → Bytes s → Reaches 5 (number_at s)
 bytes_reach s b at x next e = let r : WasRead s at x next = written_read s at x next b e in omega (arith, r.place, encode_few x)
@@ -33,14 +32,14 @@ entries_reach xs at x next e = let t : Entry xs at x next = entry_was xs at x ne
 -- A refusal's place.
 
 -- no number is passed behind the last field
-stops_late : (u : User) (source : ℕ → Got) (size at i : ℕ) (e : Seen) (w : Why) (d : ℕ) → most ≤ i → Small e → Stopped u source size 0 at i e w d → d ≡ at
+stops_late : (u : User) (source : ℕ → Result (ℕ × ℕ) Fault) (size at i : ℕ) (e : Seen) (w : Why) (d : ℕ) → most ≤ i → Small e → Stopped u source size 0 at i e w d → d ≡ at
 stops_late u source size at i e w d l m (behind x next v h) =
     let q : ◌≡◌ {A = Bool} true false = rw (past_late u i e l m) at v.more in
     let z : ◌≡◌ {A = ℕ} 0 1 = cc in
     absurd (omega arith)
 stops_late u source size at i e w d l m (here p) = step_stopped (source at) size at (rule_at u i e) w d p
 
-place_by : (n : ℕ) (u : User) (source : ℕ → Got) (size k at i : ℕ) (e : Seen) (w : Why) (d : ℕ) → Reaches n source → Small e
+place_by : (n : ℕ) (u : User) (source : ℕ → Result (ℕ × ℕ) Fault) (size k at i : ℕ) (e : Seen) (w : Why) (d : ℕ) → Reaches n source → Small e
     → Stopped u source size (suc k) at i e w d
     → ((next : ℕ) (e' : Seen) → Small e' → walk u source size (suc k) next (i + 1) e' ≡ fail w d → d ≤ next + n * k) → d ≤ at + n * suc k
 place_by n u source size k at i e w d r m (behind x next v h) go =
@@ -49,7 +48,7 @@ place_by n u source size k at i e w d r m (behind x next v h) go =
 place_by n u source size k at i e w d r m (here p) go = omega (arith, step_stopped (source at) size at (rule_at u i e) w d p)
 
 -- where k more numbers may be passed, the refusal's place is at most k numbers further
-pub place_near : (n : ℕ) (u : User) (source : ℕ → Got) (size k at i : ℕ) (e : Seen) (w : Why) (d : ℕ) → Reaches n source → i + k ≡ most → Small e
+pub place_near : (n : ℕ) (u : User) (source : ℕ → Result (ℕ × ℕ) Fault) (size k at i : ℕ) (e : Seen) (w : Why) (d : ℕ) → Reaches n source → i + k ≡ most → Small e
     → walk u source size (suc k) at i e ≡ fail w d → d ≤ at + n * k
 place_near n u source size zero at i e w d r c m h = omega (arith, stops_late u source size at i e w d (omega arith) m (stopped u source size 0 at i e w d h))
 place_near n u source size (suc k) at i e w d r c m h =
@@ -71,17 +70,17 @@ list_place xs w d h = place_near 1 Writer (entry_at xs) (length xs) most 0 0 not
 
 -- The count of a sheet's numbers and the length of its bytes.
 
-count_by : (u : User) (source : ℕ → Got) (size k at i : ℕ) (e : Seen) (ys : List ℕ) → Walked u source size (suc k) at i e ys
+count_by : (u : User) (source : ℕ → Result (ℕ × ℕ) Fault) (size k at i : ℕ) (e : Seen) (ys : List ℕ) → Walked u source size (suc k) at i e ys
     → ((next : ℕ) (e' : Seen) (zs : List ℕ) → walk u source size (suc k) next (i + 1) e' ≡ these zs → length zs ≤ k) → length ys ≤ suc k
 count_by u source size k at i e ys (gave x next zs v y h) go = rw y (omega (arith, go next (seen_after e i x) zs h))
 count_by u source size k at i e ys (ended y p l) go = rw y (omega arith)
 
-none_by : (u : User) (source : ℕ → Got) (size at i : ℕ) (e : Seen) (ys : List ℕ) → Walked u source size 0 at i e ys → length ys ≤ 0
+none_by : (u : User) (source : ℕ → Result (ℕ × ℕ) Fault) (size at i : ℕ) (e : Seen) (ys : List ℕ) → Walked u source size 0 at i e ys → length ys ≤ 0
 none_by u source size at i e ys (gave x next zs v y h) = absurd (walk_none u source size next (i + 1) (seen_after e i x) zs h)
 none_by u source size at i e ys (ended y p l) = rw y (omega arith)
 
 -- a walk of k + 1 steps gives at most k numbers: its last step sees the end
-pub count_few : (u : User) (source : ℕ → Got) (size k at i : ℕ) (e : Seen) (ys : List ℕ) → walk u source size (suc k) at i e ≡ these ys → length ys ≤ k
+pub count_few : (u : User) (source : ℕ → Result (ℕ × ℕ) Fault) (size k at i : ℕ) (e : Seen) (ys : List ℕ) → walk u source size (suc k) at i e ≡ these ys → length ys ≤ k
 count_few u source size zero at i e ys h = none_by u source size at i e ys (walked u source size 0 at i e ys h)
 count_few u source size (suc k) at i e ys h =
     count_by u source size k at i e ys (walked u source size (suc k) at i e ys h) (λ next e' zs t. count_few u source size k next (i + 1) e' zs t)
@@ -100,7 +99,7 @@ encode_all_few (x ∷ xs) = rw length-append (omega (arith, encode_few x, encode
 
 -- Every detail is below 2^32, whatever the room.
 
-needed_detail : (t : Bool) (n : ℕ) → detail (cond t (Refused Short n) (Done n)) ≡ n
+needed_detail : (t : Bool) (n : ℕ) → detail (cond t (Err (refused Short n)) (Ok n)) ≡ n
 needed_detail true n = refl
 needed_detail false n = refl
 

@@ -1,10 +1,10 @@
 -- Worked examples, computed from the definitions: sheets good and damaged; the greatest sheet, which reaches both limits; and the ends of every
 -- range.
 -- Assumes nothing.
-use Rattle.std.specs.Prelude.{ℕ, zero, suc, ◌^◌, ◌<◌, ◌≡◌, refl, List, [], ◌∷◌, ◌++◌, map, length, take, drop}
+use Rattle.std.specs.Prelude.{ℕ, zero, suc, ◌^◌, ◌<◌, ◌≡◌, refl, List, [], ◌∷◌, ◌++◌, Result, map, length, take, drop}
 use Rattle.std.proofs.Common.{arith}
 use Rattle.numbers.specs.Seven.{encode, number_at}
-use Rattle.fields.specs.declared.Outcome.{Outcome}
+use Rattle.fields.specs.declared.Refusal.{Refusal}
 use Rattle.fields.specs.declared.Why.TheVariants.{Left}
 use Rattle.fields.specs.Rule.{most, field_at, rule_at, seen_after}
 use Rattle.fields.specs.Refusal.{refusal, number, detail}
@@ -67,7 +67,7 @@ unfolding list_of step_on rule_at field_at seen_after
 lists_written = (refl, refl, refl, refl, refl)
 
 -- "10 | the buffer is too short | length needed": one entry short, and just long enough; a refusal of the sheet comes before it
-abbrev told : Outcome → List ℕ
+abbrev told : Result ℕ Refusal → List ℕ
 told o = number o ∷ detail o ∷ []
 
 pub rooms :

@@ -1,7 +1,7 @@
 -- What lies past the first 1,024 bytes never changes the reader's verdict, refusal and detail included: each number that is passed
 -- takes three bytes at most, there are at most 231 of them, and reading one looks at no more than five bytes.
 -- Assumes nothing.
-use Rattle.std.specs.Prelude.{ℕ, zero, suc, ◌+◌, ◌*◌, ◌^◌, ◌≤◌, ◌<◌, ◌≡◌, refl, List, Bool, true, false, ◌&&◌, ◌||◌, length, take, ltb, leb, eqb}
+use Rattle.std.specs.Prelude.{ℕ, zero, suc, ◌+◌, ◌*◌, ◌^◌, ◌≤◌, ◌<◌, ◌≡◌, refl, List, Bool, true, false, Option, Some, None, Result, Ok, Err, ◌&&◌, ◌||◌, length, take, ltb, leb, eqb}
 use Rattle.std.proofs.Common.{sym, ap, ◌∙◌, ⊎_elim, arith, length-take, lt-ltb, le-ltb, eqb-true}
 use Rattle.numbers.specs.Seven.{number_at}
 use Rattle.ground.proofs.OrderLaws.{lt_or_ge}
@@ -11,8 +11,7 @@ use Rattle.fields.specs.declared.User.{User}
 use Rattle.fields.specs.declared.User.TheVariants.{Reader, Writer}
 use Rattle.fields.specs.declared.Rule.{Rule}
 use Rattle.fields.specs.declared.Rule.TheVariants.{Range, Path, ZeroOr, Past}
-use Rattle.fields.specs.declared.Step.{Step}
-use Rattle.fields.specs.declared.Step.TheVariants.{Value, Stop, End}
+use Rattle.fields.specs.declared.Refusal.{Refusal}
 use Rattle.fields.specs.Rule.{most, mode_rule, table, field_rule, Seen, nothing, field_at, rule_at, allowed, seen_after}
 use Rattle.fields.specs.Step.{step_on}
 use Rattle.sheet.specs.Sheet.{also, on_step, walk, sheet_of, read_gives, read_holds}
@@ -35,7 +34,7 @@ allowed_top (ZeroOr low high) x h = by (eqb x 0) refl h
     by : (t : Bool) → eqb x 0 ≡ t → (t || (leb low x && leb x high)) ≡ true → x ≤ high
     by true e a = let z : x ≡ 0 = eqb-true x 0 e in omega arith
     by false e a = (range_bounds low x high a).1
-allowed_top Past x h = let q : ◌≡◌ {A = ℕ} 0 1 = cc in absurd (omega arith)
+allowed_top Past x h = absurd (cc)
 
 mode_top : (u : User) → top (mode_rule u) < 2097152
 unfolding top
@@ -83,17 +82,17 @@ module _ (s : List ℕ) (bytes : Bytes s) (m : ℕ) where
   unfolding step_on
   same_step at r h = rw (read_front s at m h, same_end at (omega arith))
 
-  same_by : (st : Step) (k at i : ℕ) (e : Seen) → Small e → step_on (number_at s at) (length s) at (rule_at Reader i e) ≡ st
+  same_by : (st : Result (Option (ℕ × ℕ)) Refusal) (k at i : ℕ) (e : Seen) → Small e → step_on (number_at s at) (length s) at (rule_at Reader i e) ≡ st
       → ((x next : ℕ) → next ≤ at + 3 → allowed (rule_at Reader i e) x ≡ true
       → walk Reader (number_at (take m s)) (length (take m s)) k next (i + 1) (seen_after e i x)
       ≡ walk Reader (number_at s) (length s) k next (i + 1) (seen_after e i x))
       → on_step st (λ x next. also x (walk Reader (number_at (take m s)) (length (take m s)) k next (i + 1) (seen_after e i x)))
       ≡ on_step st (λ x next. also x (walk Reader (number_at s) (length s) k next (i + 1) (seen_after e i x)))
-  same_by (Value x next) k at i e l t go =
+  same_by (Ok (Some (x, next))) k at i e l t go =
       let v : Gave (number_at s at) (rule_at Reader i e) x next = step_gave (number_at s at) (length s) at (rule_at Reader i e) x next t in
       ap (also x) (go x next (near at i x next e l v) v.fine)
-  same_by (Stop w d) k at i e l t go = refl
-  same_by End k at i e l t go = refl
+  same_by (Err r) k at i e l t go = refl
+  same_by (Ok None) k at i e l t go = refl
 
   same_walk : (k at i : ℕ) (e : Seen) → Small e → at + 3 * k + 5 ≤ m
       → walk Reader (number_at (take m s)) (length (take m s)) k at i e ≡ walk Reader (number_at s) (length s) k at i e

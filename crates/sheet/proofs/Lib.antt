@@ -14,5 +14,5 @@ pub mod RoomLaws
 pub mod DetailLaws
 pub mod Walking
 pub mod Reading
+pub mod Passing
 pub mod Writing
-pub mod Copying

@@ -1,13 +1,12 @@
 -- The round trips: reading what was written gives back its numbers, and writing what was read gives back its bytes.
 -- Assumes nothing.
-use Rattle.std.specs.Prelude.{ℕ, zero, suc, ◌+◌, ◌≤◌, ◌<◌, ◌≡◌, refl, List, ◌++◌, Bool, true, false, cond, length, get_or, take, drop, ltb}
+use Rattle.std.specs.Prelude.{ℕ, zero, suc, ◌+◌, ◌≤◌, ◌<◌, ◌≡◌, refl, List, ◌++◌, Bool, true, false, Ok, Err, cond, length, get_or, take, drop, ltb}
 use Rattle.std.proofs.Common.{sym, ap, ◌∙◌, arith, take-append-drop, drop_of_length-le, drop-cons, take_all, drop-drop, le-ltb, ltb-false}
 use Rattle.std.proofs.Math.Seq.{take-append_seam}
 use Rattle.numbers.specs.Seven.{encode, number_at}
 use Rattle.numbers.proofs.SevenLaws.{read_written, Bytes, WasRead, written_read}
-use Rattle.numbers.specs.declared.Got.TheVariants as got
 use Rattle.fields.specs.declared.User.TheVariants.{Reader}
-use Rattle.fields.specs.declared.Outcome.TheVariants.{Done, Refused}
+use Rattle.fields.specs.Refusal.{refused}
 use Rattle.fields.specs.declared.Why.TheVariants.{Short}
 use Rattle.fields.specs.Rule.{most, Seen, nothing, seen_after}
 use Rattle.ground.specs.Buffer.{holds}
@@ -30,7 +29,7 @@ module _ (xs : List ℕ) (words : Words xs) where
   parted : (i : ℕ) → i < length xs → encode_all xs ≡ encode_all (take i xs) ++ (encode (get_or xs i 0) ++ encode_all (drop (suc i) xs))
   parted i h = ap encode_all (sym (take-append-drop i xs)) ∙ encode_append (take i xs) (drop i xs) ∙ rw (drop-cons xs i 0 h)
 
-  read_at : (i : ℕ) → i < length xs → number_at (encode_all xs) (placed i) ≡ got.Number (get_or xs i 0) (placed (i + 1))
+  read_at : (i : ℕ) → i < length xs → number_at (encode_all xs) (placed i) ≡ Ok (get_or xs i 0, placed (i + 1))
   read_at i h = rw (parted i h, length_next xs i h) (read_written (encode_all (take i xs)) (get_or xs i 0) (encode_all (drop (suc i) xs)) (words i))
 
   -- the bytes of a list give its numbers one by one
@@ -73,14 +72,14 @@ read_listed s xs h = valid_listed xs (read_valid s xs h)
 
 -- The round trips of the two functions, where the buffers have room: what one left at the front of its buffer, the other takes.
 
-gives_done : (needed room n : ℕ) → gives needed room ≡ Done n → (needed ≡ n) × (needed ≤ room)
+gives_done : (needed room n : ℕ) → gives needed room ≡ Ok n → (needed ≡ n) × (needed ≤ room)
 gives_done needed room n e = by (ltb room needed) refl e
   where
-    by : (t : Bool) → ltb room needed ≡ t → cond t (Refused Short needed) (Done needed) ≡ Done n → (needed ≡ n) × (needed ≤ room)
-    by true l e = let q : ◌≡◌ {A = ℕ} 0 1 = cc in absurd (omega arith)
+    by : (t : Bool) → ltb room needed ≡ t → cond t (Err (refused Short needed)) (Ok needed) ≡ Ok n → (needed ≡ n) × (needed ≤ room)
+    by true l e = absurd (cc)
     by false l e = (cc, ltb-false room needed l)
 
-pub gives_room : (needed room : ℕ) → needed ≤ room → gives needed room ≡ Done needed
+pub gives_room : (needed room : ℕ) → needed ≤ room → gives needed room ≡ Ok needed
 gives_room needed room h = rw (le-ltb room needed h)
 
 pub holds_front : (xs buffer : List ℕ) → length xs ≤ length buffer → take (length xs) (holds xs buffer) ≡ xs
@@ -92,18 +91,18 @@ pub record WasDone (f : Found) (size : List ℕ → ℕ) (room n : ℕ) : Type 0
   pub count : size numbers ≡ n
   pub fits : size numbers ≤ room
 
-pub read_done : (f : Found) (room n : ℕ) → read_gives f room ≡ Done n → WasDone f length room n
-read_done (fail w d) room n e = let q : ◌≡◌ {A = ℕ} 0 1 = cc in absurd (omega arith)
+pub read_done : (f : Found) (room n : ℕ) → read_gives f room ≡ Ok n → WasDone f length room n
+read_done (fail w d) room n e = absurd (cc)
 read_done (these xs) room n e = let t = gives_done (length xs) room n e in record { numbers = xs; is = refl; count = t.0; fits = t.1 }
 
-pub write_done : (f : Found) (room n : ℕ) → write_gives f room ≡ Done n → WasDone f (λ xs. length (encode_all xs)) room n
-write_done (fail w d) room n e = let q : ◌≡◌ {A = ℕ} 0 1 = cc in absurd (omega arith)
+pub write_done : (f : Found) (room n : ℕ) → write_gives f room ≡ Ok n → WasDone f (λ xs. length (encode_all xs)) room n
+write_done (fail w d) room n e = absurd (cc)
 write_done (these xs) room n e = let t = gives_done (length (encode_all xs)) room n e in record { numbers = xs; is = refl; count = t.0; fits = t.1 }
 
 -- "Reading a written sheet gives back its numbers": the n bytes that `write_sheet` wrote are read as the numbers that it was given.
-pub read_written_sheet : (xs buffer list : List ℕ) (n : ℕ) → Words xs → write_gives (list_of xs) (length buffer) ≡ Done n → length xs ≤ length list
+pub read_written_sheet : (xs buffer list : List ℕ) (n : ℕ) → Words xs → write_gives (list_of xs) (length buffer) ≡ Ok n → length xs ≤ length list
     → let written = sheet_of (take n (write_holds (list_of xs) buffer)) in
-    (read_gives written (length list) ≡ Done (length xs)) × (take (length xs) (read_holds written list) ≡ xs)
+    (read_gives written (length list) ≡ Ok (length xs)) × (take (length xs) (read_holds written list) ≡ xs)
 read_written_sheet xs buffer list n words e room =
     let d : WasDone (list_of xs) (λ xs. length (encode_all xs)) (length buffer) n = write_done (list_of xs) (length buffer) n e in
     let y : d.numbers ≡ xs = list_whole xs d.numbers d.is in
@@ -117,9 +116,9 @@ read_written_sheet xs buffer list n words e room =
 read_front : (f : Found) (xs list : List ℕ) (n : ℕ) → f ≡ these xs → length xs ≡ n → length xs ≤ length list → take n (read_holds f list) ≡ xs
 read_front f xs list n is count room = rw (is, ← count) (holds_front xs list room)
 
-pub written_read_sheet : (s list buffer : List ℕ) (n : ℕ) → Bytes s → read_gives (sheet_of s) (length list) ≡ Done n → length s ≤ length buffer
+pub written_read_sheet : (s list buffer : List ℕ) (n : ℕ) → Bytes s → read_gives (sheet_of s) (length list) ≡ Ok n → length s ≤ length buffer
     → let read = list_of (take n (read_holds (sheet_of s) list)) in
-    (write_gives read (length buffer) ≡ Done (length s)) × (take (length s) (write_holds read buffer) ≡ s)
+    (write_gives read (length buffer) ≡ Ok (length s)) × (take (length s) (write_holds read buffer) ≡ s)
 written_read_sheet s list buffer n bytes e room =
     let d : WasDone (sheet_of s) length (length list) n = read_done (sheet_of s) (length list) n e in
     let front = read_front (sheet_of s) d.numbers list n d.is d.count d.fits in

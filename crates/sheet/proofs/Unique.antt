@@ -1,15 +1,15 @@
 -- Each public function's contract leaves one possible result, and one possible content of each lent buffer, for every input.
 -- Assumes nothing.
-use Rattle.std.specs.Prelude.{ℕ, ◌≡◌, List}
+use Rattle.std.specs.Prelude.{ℕ, ◌≡◌, List, Result}
 use Rattle.ground.proofs.ValueLaws.{one_value}
-use Rattle.fields.specs.declared.Outcome.{Outcome}
+use Rattle.fields.specs.declared.Refusal.{Refusal}
 use Rattle.sheet.specs.Contract.{ReadSheet, WriteSheet, ListWidth, PutAll}
 
-pub read_sheet_unique : (bytes before : List ℕ) (r r' : Outcome) (after after' : List ℕ) → ReadSheet bytes before r after
+pub read_sheet_unique : (bytes before : List ℕ) (r r' : Result ℕ Refusal) (after after' : List ℕ) → ReadSheet bytes before r after
     → ReadSheet bytes before r' after' → (r ≡ r') × (after ≡ after')
 read_sheet_unique bytes before r r' after after' p q = (one_value p.gives q.gives, one_value p.holds q.holds)
 
-pub write_sheet_unique : (numbers before : List ℕ) (r r' : Outcome) (after after' : List ℕ) → WriteSheet numbers before r after
+pub write_sheet_unique : (numbers before : List ℕ) (r r' : Result ℕ Refusal) (after after' : List ℕ) → WriteSheet numbers before r after
     → WriteSheet numbers before r' after' → (r ≡ r') × (after ≡ after')
 write_sheet_unique numbers before r r' after after' p q = (one_value p.gives q.gives, one_value p.holds q.holds)
 

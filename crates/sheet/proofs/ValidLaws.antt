@@ -1,12 +1,11 @@
 -- A list of numbers is a sheet's exactly where it is `Valid`: what the field rule admits, field by field, is document 01's table. Both ways are
 -- proved of a walk over any source by any user's rule; the reader's and the writer's are instances.
 -- Assumes nothing.
-use Rattle.std.specs.Prelude.{ℕ, zero, suc, ◌+◌, ◌-◌, ◌≤◌, ◌<◌, ◌≡◌, refl, ◌⊎◌, List, [], ◌∷◌, Bool, true, false, ◌&&◌, ◌||◌, length, get_or, drop, leb, eqb}
+use Rattle.std.specs.Prelude.{ℕ, zero, suc, ◌+◌, ◌-◌, ◌≤◌, ◌<◌, ◌≡◌, refl, ◌⊎◌, List, [], ◌∷◌, Bool, true, false, Result, Ok, ◌&&◌, ◌||◌, length, get_or, drop, leb, eqb}
 use Rattle.std.proofs.Common.{sym, ap, ◌∙◌, inl, inr, ⊎_elim, add-one, arith, drop_of_length-le, drop-cons, le-leb, eq-eqb, ne_eqb, eqb-true}
 use Rattle.ground.proofs.OrderLaws.{lt_or_ge, eq_or_ne}
 use Rattle.numbers.specs.Seven.{number_at}
-use Rattle.numbers.specs.declared.Got.{Got}
-use Rattle.numbers.specs.declared.Got.TheVariants as got
+use Rattle.numbers.specs.declared.Fault.{Fault}
 use Rattle.fields.specs.declared.User.{User}
 use Rattle.fields.specs.declared.User.TheVariants.{Reader, Writer}
 use Rattle.fields.specs.declared.Rule.{Rule}
@@ -107,18 +106,18 @@ head_at : (xs : List ℕ) (i x : ℕ) (zs : List ℕ) → drop i xs ≡ x ∷ zs
 head_at xs i x zs e =
     ⊎_elim
     (λ (h : i < length xs). let d = sym (drop-cons xs i 0 h) ∙ e in (h, (cc, rw (add-one i) (cc))))
-    (λ (h : length xs ≤ i). let d : [] ≡ x ∷ zs = sym (drop_of_length-le xs h) ∙ e in let q : ◌≡◌ {A = ℕ} 0 1 = cc in absurd (omega arith))
+    (λ (h : length xs ≤ i). let d : [] ≡ x ∷ zs = sym (drop_of_length-le xs h) ∙ e in absurd (cc))
     (lt_or_ge i (length xs))
 
 none_at : (xs : List ℕ) (i : ℕ) → drop i xs ≡ [] → length xs ≤ i
 none_at xs i e =
     ⊎_elim
-    (λ (h : i < length xs). let d = sym (drop-cons xs i 0 h) ∙ e in let q : ◌≡◌ {A = ℕ} 0 1 = cc in absurd (omega arith))
+    (λ (h : i < length xs). let d = sym (drop-cons xs i 0 h) ∙ e in absurd (cc))
     (λ (h : length xs ≤ i). h)
     (lt_or_ge i (length xs))
 
 module _ (u : User) (xs : List ℕ) where
-  fits_here : (g : Got) (i x next : ℕ) (e : Seen) → Knows xs i e → Gave g (rule_at u i e) x next → get_or xs i 0 ≡ x → FitsFrom u xs (i + 1) → FitsFrom u xs i
+  fits_here : (g : Result (ℕ × ℕ) Fault) (i x next : ℕ) (e : Seen) → Knows xs i e → Gave g (rule_at u i e) x next → get_or xs i 0 ≡ x → FitsFrom u xs (i + 1) → FitsFrom u xs i
   fits_here g i x next e k v t f =
       record {
         more = from_here {P = λ j. j < length xs → (p : FieldAt xs j) → is_past (rule_of u xs j p) ≡ false} i
@@ -137,7 +136,7 @@ module _ (u : User) (xs : List ℕ) where
         done = rw q (λ (p : FieldAt xs i). rw (← rule_known u xs i e k p) z);
       }
 
-  fits_by : (source : ℕ → Got) (size n at i : ℕ) (e : Seen) (ys : List ℕ) → i ≤ length xs → Knows xs i e → drop i xs ≡ ys → Walked u source size n at i e ys
+  fits_by : (source : ℕ → Result (ℕ × ℕ) Fault) (size n at i : ℕ) (e : Seen) (ys : List ℕ) → i ≤ length xs → Knows xs i e → drop i xs ≡ ys → Walked u source size n at i e ys
       → ((next : ℕ) (e' : Seen) (zs : List ℕ) → i + 1 ≤ length xs → Knows xs (i + 1) e' → drop (i + 1) xs ≡ zs
       → walk u source size n next (i + 1) e' ≡ these zs → FitsFrom u xs (i + 1))
       → FitsFrom u xs i
@@ -147,14 +146,14 @@ module _ (u : User) (xs : List ℕ) where
       fits_here (source at) i x next e k v t.1.0 (go next (seen_after e i x) zs (omega (arith, t.0)) k' t.1.1 w)
   fits_by source size n at i e ys h k d (ended y p l) go = fits_end i e h (none_at xs i (d ∙ y)) k p
 
-  fits_from : (source : ℕ → Got) (size n at i : ℕ) (e : Seen) (ys : List ℕ) → i ≤ length xs → Knows xs i e → drop i xs ≡ ys
+  fits_from : (source : ℕ → Result (ℕ × ℕ) Fault) (size n at i : ℕ) (e : Seen) (ys : List ℕ) → i ≤ length xs → Knows xs i e → drop i xs ≡ ys
       → walk u source size n at i e ≡ these ys → FitsFrom u xs i
   fits_from source size zero at i e ys h k d w = absurd (walk_none u source size at i e ys w)
   fits_from source size (suc n) at i e ys h k d w =
       fits_by source size n at i e ys h k d (walked u source size n at i e ys w)
       (λ next e' zs h' k' d' w'. fits_from source size n next (i + 1) e' zs h' k' d' w')
 
-  walked_fits : (source : ℕ → Got) (size n : ℕ) → walk u source size n 0 0 nothing ≡ these xs → Fits u xs
+  walked_fits : (source : ℕ → Result (ℕ × ℕ) Fault) (size n : ℕ) → walk u source size n 0 0 nothing ≡ these xs → Fits u xs
   walked_fits source size n w =
       let f : FitsFrom u xs 0 = fits_from source size n 0 0 nothing xs (omega arith) (knows_nothing xs) refl w in
       record { more = λ i h p. f.more i (omega arith) h p; fine = λ i h p. f.fine i (omega arith) h p; done = f.done }
@@ -229,7 +228,7 @@ fits_valid {u} xs f =
     }
 
 -- A list that a walk by any user's rule over any source gives meets document 01's table.
-pub walked_valid : (u : User) (source : ℕ → Got) (size n : ℕ) (xs : List ℕ) → walk u source size n 0 0 nothing ≡ these xs → Valid xs
+pub walked_valid : (u : User) (source : ℕ → Result (ℕ × ℕ) Fault) (size n : ℕ) (xs : List ℕ) → walk u source size n 0 0 nothing ≡ these xs → Valid xs
 walked_valid u source size n xs w = fits_valid xs (walked_fits u xs source size n w)
 
 -- the reader's numbers, and the writer's
@@ -310,12 +309,12 @@ pub valid_length : (xs : List ℕ) → Valid xs → length xs ≤ most
 valid_length xs v = omega (arith, v.size, v.servers.most, v.flows.most)
 
 -- A source that gives the numbers of a list one by one: where number i begins, and that nothing is left behind the last.
-pub record Source (source : ℕ → Got) (size : ℕ) (place : ℕ → ℕ) (xs : List ℕ) : Type 0 where
-  pub numbers : (i : ℕ) → i < length xs → source (place i) ≡ got.Number (get_or xs i 0) (place (i + 1))
+pub record Source (source : ℕ → Result (ℕ × ℕ) Fault) (size : ℕ) (place : ℕ → ℕ) (xs : List ℕ) : Type 0 where
+  pub numbers : (i : ℕ) → i < length xs → source (place i) ≡ Ok (get_or xs i 0, place (i + 1))
   pub end : size ≤ place (length xs)
 
 -- A list that fits is taken whole from such a source.
-module _ (u : User) {source : ℕ → Got} {size : ℕ} {place : ℕ → ℕ} (xs : List ℕ) (g : Source source size place xs) (f : Fits u xs) where
+module _ (u : User) {source : ℕ → Result (ℕ × ℕ) Fault} {size : ℕ} {place : ℕ → ℕ} (xs : List ℕ) (g : Source source size place xs) (f : Fits u xs) where
   taken : (n i : ℕ) (e : Seen) → Knows xs i e → i ≤ length xs → length xs < i + n → walk u source size n (place i) i e ≡ these (drop i xs)
   taken zero i e k h l = absurd (omega arith)
   taken (suc n) i e k h l =
@@ -337,7 +336,7 @@ module _ (u : User) {source : ℕ → Got} {size : ℕ} {place : ℕ → ℕ} (x
       (lt_or_ge i (length xs))
 
 -- A valid list is taken whole by any user's rule.
-pub valid_walked : (u : User) (source : ℕ → Got) (size : ℕ) (place : ℕ → ℕ) (xs : List ℕ) → Source source size place xs → Valid xs
+pub valid_walked : (u : User) (source : ℕ → Result (ℕ × ℕ) Fault) (size : ℕ) (place : ℕ → ℕ) (xs : List ℕ) → Source source size place xs → Valid xs
     → walk u source size (suc most) (place 0) 0 nothing ≡ these xs
 valid_walked u source size place xs g v =
     taken u xs g (valid_fits u xs v) (suc most) 0 nothing (knows_nothing xs) (omega arith) (omega (arith, valid_length xs v))

@@ -1,18 +1,16 @@
 -- What a byte string is read as and what a list of numbers is written as: field by field, a number and then its rule.
 -- Assumes nothing.
-use Rattle.std.specs.Prelude.{ℕ, zero, suc, ◌+◌, List, [], ◌∷◌, ◌++◌, cond, length, get_or, ltb}
+use Rattle.std.specs.Prelude.{ℕ, zero, suc, ◌+◌, List, [], ◌∷◌, ◌++◌, Option, Some, None, Result, Ok, Err, cond, length, get_or, ltb}
 use Rattle.ground.specs.Buffer.{holds}
 use Rattle.numbers.specs.Seven.{number_at, encode}
-use Rattle.numbers.specs.declared.Got.{Got}
-use Rattle.numbers.specs.declared.Got.TheVariants as got
+use Rattle.numbers.specs.declared.Fault.{Fault}
+use Rattle.numbers.specs.declared.Fault.TheVariants.{Ends}
 use Rattle.fields.specs.declared.User.{User}
 use Rattle.fields.specs.declared.User.TheVariants.{Reader, Writer}
-use Rattle.fields.specs.declared.Outcome.{Outcome}
-use Rattle.fields.specs.declared.Outcome.TheVariants.{Done, Refused}
+use Rattle.fields.specs.declared.Refusal.{Refusal}
 use Rattle.fields.specs.declared.Why.{Why}
 use Rattle.fields.specs.declared.Why.TheVariants.{Left, Short}
-use Rattle.fields.specs.declared.Step.{Step}
-use Rattle.fields.specs.declared.Step.TheVariants.{Value, Stop, End}
+use Rattle.fields.specs.Refusal.{refused}
 use Rattle.fields.specs.Rule.{most, Seen, nothing, rule_at, seen_after}
 use Rattle.fields.specs.Step.{step_on}
 
@@ -25,13 +23,13 @@ abbrev pub also : ℕ → Found → Found
 also x (fail w d) = fail w d
 also x (these xs) = these (x ∷ xs)
 
-abbrev pub on_step : Step → (ℕ → ℕ → Found) → Found
-on_step (Value x next) go = go x next
-on_step (Stop w d) go = fail w d
-on_step End go = these []
+abbrev pub on_step : Result (Option (ℕ × ℕ)) Refusal → (ℕ → ℕ → Found) → Found
+on_step (Ok (Some (x, next))) go = go x next
+on_step (Ok None) go = these []
+on_step (Err r) go = fail r.why r.at
 
 -- Field by field by a user's rule, from a place of the source on, where the number of place i of the sheet comes next; k steps are allowed.
-abbrev pub walk : User → (ℕ → Got) → ℕ → ℕ → ℕ → ℕ → Seen → Found
+abbrev pub walk : User → (ℕ → Result (ℕ × ℕ) Fault) → ℕ → ℕ → ℕ → ℕ → Seen → Found
 walk user source size zero at i e = fail Left at
 walk user source size (suc k) at i e =
     on_step (step_on (source at) size at (rule_at user i e)) (λ x next. also x (walk user source size k next (i + 1) (seen_after e i x)))
@@ -41,8 +39,8 @@ unfoldable pub sheet_of : List ℕ → Found
 sheet_of bytes = walk Reader (number_at bytes) (length bytes) (suc most) 0 0 nothing
 
 -- The writer: a list of numbers as a source, whose "offsets count numbers".
-abbrev pub entry_at : List ℕ → ℕ → Got
-entry_at numbers i = cond (ltb i (length numbers)) (got.Number (get_or numbers i 0) (i + 1)) got.Ends
+abbrev pub entry_at : List ℕ → ℕ → Result (ℕ × ℕ) Fault
+entry_at numbers i = cond (ltb i (length numbers)) (Ok (get_or numbers i 0, i + 1)) (Err Ends)
 
 -- The same list where it is a sheet's, or its refusal.
 unfoldable pub list_of : List ℕ → Found
@@ -55,12 +53,12 @@ encode_all (x ∷ xs) = encode x ++ encode_all xs
 
 -- What a function gives where that much is to go into the buffer lent to it: "10, the buffer is too short, length needed" comes last. What the buffer
 -- then holds is `holds`: "entries past them stay"; "on refusal the buffer stays as it was".
-abbrev pub gives : ℕ → ℕ → Outcome
-gives needed room = cond (ltb room needed) (Refused Short needed) (Done needed)
+abbrev pub gives : ℕ → ℕ → Result ℕ Refusal
+gives needed room = cond (ltb room needed) (Err (refused Short needed)) (Ok needed)
 
 -- The reader: the numbers go into the list, and their count is given.
-abbrev pub read_gives : Found → ℕ → Outcome
-read_gives (fail w d) room = Refused w d
+abbrev pub read_gives : Found → ℕ → Result ℕ Refusal
+read_gives (fail w d) room = Err (refused w d)
 read_gives (these xs) room = gives (length xs) room
 
 abbrev pub read_holds : Found → List ℕ → List ℕ
@@ -68,8 +66,8 @@ read_holds (fail w d) numbers = numbers
 read_holds (these xs) numbers = holds xs numbers
 
 -- The writer: the bytes go into the buffer, and their length is given.
-abbrev pub write_gives : Found → ℕ → Outcome
-write_gives (fail w d) room = Refused w d
+abbrev pub write_gives : Found → ℕ → Result ℕ Refusal
+write_gives (fail w d) room = Err (refused w d)
 write_gives (these xs) room = gives (length (encode_all xs)) room
 
 abbrev pub write_holds : Found → List ℕ → List ℕ
