@@ -1,26 +1,16 @@
--- The turns of the loops that test flow by flow, and of the loop that counts the points.
+-- A test of a list's entries, by number.
 -- Assumes nothing.
-use mathlib.Core.Path.{◌≡◌, refl, sym}
-use mathlib.Core.Bool.{Bool, false}
-use Prim.Native.Nat.{ℕ, ◌+◌, ◌*◌, ◌^◌, ◌≤◌}
-use native.Mathlib.Numerals.{add-one}
-use native.Mathlib.Nat.{pow-suc, pow-le-pow_right, mul-le-mul}
+use Rattle.std.proofs.Common.{◌≡◌, refl, sym, ap, ◌∙◌, Bool, List, ℕ, zero, suc, ◌≤◌, length, get_or, take, arith, add-one}
+use Rattle.std.proofs.Math.Seq.{take-length}
+use Rattle.std.specs.List.{list_any}
+use Rattle.std.proofs.lemmas.List.Folds.{list_any_more}
 use Rattle.tandem.specs.Sums.{any}
 
-pub any_none : (p : ℕ → Bool) → any 0 p ≡ false
+front_any : {B : Type 0} (p : B → Bool) (d : B) (xs : List B) (n : ℕ) → n ≤ length xs → list_any p (take n xs) ≡ any n (λ f. p (get_or xs f d))
 unfolding any
-any_none p = refl
+front_any p d xs zero h = refl
+front_any p d xs (suc n) h =
+    ap (λ (k : ℕ). list_any p (take k xs)) (sym (add-one n)) ∙ list_any_more p xs n d (omega arith) ∙ rw (front_any p d xs n (omega arith))
 
-pub any_more : (n : ℕ) (p : ℕ → Bool) → any n p ≡ false → p n ≡ false → any (n + 1) p ≡ false
-unfolding any
-any_more n p h k = rw (add-one n, h, k)
-
--- a power, one factor more
-pub power_more : (g i x : ℕ) → x ≡ g ^ i → x * g ≡ g ^ (i + 1)
-power_more g i x h = rw (add-one i, h) (sym (pow-suc g i))
-
-pub power_most : (g i n : ℕ) → 1 ≤ g → i ≤ n → g ^ i ≤ g ^ n
-power_most g i n h k = pow-le-pow_right h k
-
-pub power_small : (g x : ℕ) → g ≤ 9 → x ≤ 65536 → x * g ≤ 589824
-power_small g x h k = mul-le-mul k h
+pub list_any_any : {B : Type 0} (p : B → Bool) (d : B) (xs : List B) → list_any p xs ≡ any (length xs) (λ f. p (get_or xs f d))
+list_any_any p d xs = ap (list_any p) (sym (take-length xs)) ∙ front_any p d xs (length xs) (omega arith)

@@ -1,7 +1,7 @@
 -- Rows of document 01's table: P7 passes and has one group, P9 is refused by 6, P10 by 7 at server 1. Rows around the limits of each check, and the
 -- groups of a row in order. And a sheet alike to P7's, whose one group is two flows.
 -- Assumes nothing.
-use Rattle.std.specs.Prelude.{◌≡◌, refl, List, [], ◌∷◌, ◌++◌, map, Bool, true, false, ◌||◌, ◌&&◌, ℕ, zero, suc, ◌+◌, eqb, length, replicate}
+use Rattle.std.specs.Prelude.{◌≡◌, refl, Option, Some, None, Ok, Err, List, [], ◌∷◌, ◌++◌, map, Bool, true, false, ◌||◌, ◌&&◌, ℕ, zero, suc, ◌+◌, eqb, length, replicate}
 use Rattle.std.proofs.Common.{arith}
 use Rattle.fields.specs.Rule.{rule_at, field_at, seen_after}
 use Rattle.fields.specs.Step.{step_on}
@@ -10,8 +10,8 @@ use Rattle.sheet.specs.Valid.{Valid}
 use Rattle.sheet.proofs.ValidLaws.{listed_valid}
 use Rattle.row.specs.declared.Row.{Row}
 use Rattle.tandem.specs.declared.Flow.{Flow}
-use Rattle.row.specs.declared.Check.{Check}
-use Rattle.row.specs.declared.Check.TheVariants.{Passed, Crossing, Crowded, Points}
+use Rattle.row.specs.declared.Unfit.{Unfit}
+use Rattle.row.specs.declared.Unfit.TheVariants.{Crossing, Crowded, Points}
 use Rattle.tandem.specs.Sums.{weigh, total, any}
 use Rattle.tandem.specs.Tandem.{crosses, on, bursts, rates, no_flow, no_server}
 use Rattle.row.specs.Groups.{used, from, from_on, groups, grouped, reads}
@@ -20,7 +20,6 @@ use Rattle.row.specs.Checks.{overlaps, not_nested, too_many}
 use Rattle.row.specs.Alike.{Alike}
 use Rattle.row.proofs.SameLaws.{row_alike}
 use Rattle.tandem.specs.OfSheet.{listed, tandem_of}
-use Rattle.row.specs.RowFor.{no_row}
 use Rattle.row.specs.OfSheet.{grid_of, row_of, check_of, formed_of}
 
 -- P7: R 10, T 0; cross 10, 6; watched 12, 4; g 4
@@ -56,15 +55,15 @@ pub valid9 : Valid sheet9
 unfolding list_of step_on rule_at field_at seen_after
 valid9 = listed_valid sheet9 sheet9 refl
 
-pub passed7 : check_of sheet7 ≡ Passed
+pub passed7 : check_of sheet7 ≡ None
 unfolding total any crosses on bursts rates used from from_on groups grouped reads overlaps not_nested crowded lowest_crowded too_many listed tandem_of
     grid_of row_of check_of
 passed7 = refl
 
 pub figures :
-    (formed_of sheet7 ≡ record { check = Passed; row = row7 })
-    × (formed_of sheet9 ≡ record { check = Crossing; row = no_row })
-    × (formed_of sheet10 ≡ record { check = Crowded 1; row = no_row })
+    (formed_of sheet7 ≡ Ok row7)
+    × (formed_of sheet9 ≡ Err Crossing)
+    × (formed_of sheet10 ≡ Err (Crowded 1))
 unfolding total any crosses on bursts rates used from from_on groups grouped reads overlaps not_nested crowded lowest_crowded too_many listed tandem_of
     grid_of row_of check_of formed_of
 figures = (refl, refl, refl)
@@ -96,9 +95,9 @@ at_each (suc n) l = at_each n (crossing (suc n) (suc n) 1 ∷ l)
 
 pub record Checked : Type 0 where
   pub sheet : List ℕ
-  pub says : Check
+  pub says : Option Unfit
 
-abbrev checked : List ℕ → Check → Checked
+abbrev checked : List ℕ → Option Unfit → Checked
 checked s c = record { sheet = s; says = c }
 
 abbrev tens : ℕ → List ℕ
@@ -108,32 +107,32 @@ abbrev pub rows : List Checked
 rows =
     -- 6: i < h ≤ j < k, in either order in the sheet; paths that share no server, one path inside another, with or without its first or last server,
     -- and equal paths do not cross
-    checked (row_with (tens 4) (crossing 1 3 1 ∷ crossing 2 4 1 ∷ []) 1 0 3) Crossing
-    ∷ checked (row_with (tens 4) (crossing 3 4 1 ∷ crossing 1 1 1 ∷ crossing 1 3 1 ∷ []) 1 0 3) Crossing
-    ∷ checked (row_with (tens 4) (crossing 1 2 1 ∷ crossing 3 4 1 ∷ []) 1 0 3) Passed
-    ∷ checked (row_with (tens 4) (crossing 1 4 1 ∷ crossing 2 3 1 ∷ crossing 1 3 1 ∷ crossing 1 1 1 ∷ crossing 4 4 1 ∷ []) 1 0 3) Passed
-    ∷ checked (row_with (tens 4) (crossing 2 3 1 ∷ crossing 2 3 1 ∷ crossing 3 3 1 ∷ []) 1 0 3) Passed
+    checked (row_with (tens 4) (crossing 1 3 1 ∷ crossing 2 4 1 ∷ []) 1 0 3) (Some Crossing)
+    ∷ checked (row_with (tens 4) (crossing 3 4 1 ∷ crossing 1 1 1 ∷ crossing 1 3 1 ∷ []) 1 0 3) (Some Crossing)
+    ∷ checked (row_with (tens 4) (crossing 1 2 1 ∷ crossing 3 4 1 ∷ []) 1 0 3) None
+    ∷ checked (row_with (tens 4) (crossing 1 4 1 ∷ crossing 2 3 1 ∷ crossing 1 3 1 ∷ crossing 1 1 1 ∷ crossing 4 4 1 ∷ []) 1 0 3) None
+    ∷ checked (row_with (tens 4) (crossing 2 3 1 ∷ crossing 2 3 1 ∷ crossing 3 3 1 ∷ []) 1 0 3) None
     -- 7: "R 10, rates 6 and 4 | accepted"; at each server the rates of the flows that cross it, from the first server to the last; "lowest such server"
-    ∷ checked (row_with (tens 1) (crossing 1 1 6 ∷ []) 4 0 3) Passed
-    ∷ checked (row_with (tens 2) (crossing 1 1 6 ∷ crossing 2 2 6 ∷ []) 4 0 3) Passed
-    ∷ checked (row_with (tens 2) (crossing 1 1 6 ∷ crossing 2 2 7 ∷ []) 4 0 3) (Crowded 2)
-    ∷ checked (row_with (10 ∷ 20 ∷ 20 ∷ 10 ∷ []) (crossing 2 3 16 ∷ []) 4 0 3) Passed
-    ∷ checked (row_with (10 ∷ 19 ∷ 20 ∷ 10 ∷ []) (crossing 2 3 16 ∷ []) 4 0 3) (Crowded 2)
-    ∷ checked (row_with (10 ∷ 20 ∷ 19 ∷ 10 ∷ []) (crossing 2 3 16 ∷ []) 4 0 3) (Crowded 3)
-    ∷ checked (row_with (10 ∷ 19 ∷ 19 ∷ 3 ∷ []) (crossing 2 3 16 ∷ []) 4 0 3) (Crowded 2)
+    ∷ checked (row_with (tens 1) (crossing 1 1 6 ∷ []) 4 0 3) None
+    ∷ checked (row_with (tens 2) (crossing 1 1 6 ∷ crossing 2 2 6 ∷ []) 4 0 3) None
+    ∷ checked (row_with (tens 2) (crossing 1 1 6 ∷ crossing 2 2 7 ∷ []) 4 0 3) (Some (Crowded 2))
+    ∷ checked (row_with (10 ∷ 20 ∷ 20 ∷ 10 ∷ []) (crossing 2 3 16 ∷ []) 4 0 3) None
+    ∷ checked (row_with (10 ∷ 19 ∷ 20 ∷ 10 ∷ []) (crossing 2 3 16 ∷ []) 4 0 3) (Some (Crowded 2))
+    ∷ checked (row_with (10 ∷ 20 ∷ 19 ∷ 10 ∷ []) (crossing 2 3 16 ∷ []) 4 0 3) (Some (Crowded 3))
+    ∷ checked (row_with (10 ∷ 19 ∷ 19 ∷ 3 ∷ []) (crossing 2 3 16 ∷ []) 4 0 3) (Some (Crowded 2))
     -- 8: "g 9, five groups: 59,049 points | accepted", "g 9, six groups | 8, detail 6", "g 2, sixteen groups; seventeen | accepted; 8"; six flows on
     -- five paths are five groups
-    ∷ checked (row_with (tens 5) (at_each 5 []) 1 0 9) Passed
-    ∷ checked (row_with (tens 5) (at_each 5 (crossing 5 5 1 ∷ [])) 1 0 9) Passed
-    ∷ checked (row_with (tens 6) (at_each 6 []) 1 0 9) (Points 6)
-    ∷ checked (row_with (tens 6) (at_each 6 []) 1 1 9) Passed
-    ∷ checked (row_with (tens 16) (at_each 16 []) 1 0 2) Passed
-    ∷ checked (row_with (tens 16) (at_each 16 (crossing 1 16 1 ∷ [])) 1 0 2) (Points 17)
+    ∷ checked (row_with (tens 5) (at_each 5 []) 1 0 9) None
+    ∷ checked (row_with (tens 5) (at_each 5 (crossing 5 5 1 ∷ [])) 1 0 9) None
+    ∷ checked (row_with (tens 6) (at_each 6 []) 1 0 9) (Some (Points 6))
+    ∷ checked (row_with (tens 6) (at_each 6 []) 1 1 9) None
+    ∷ checked (row_with (tens 16) (at_each 16 []) 1 0 2) None
+    ∷ checked (row_with (tens 16) (at_each 16 (crossing 1 16 1 ∷ [])) 1 0 2) (Some (Points 17))
     -- 4^8 is 65,536; and 0 means 3: 3^10 is 59,049, 3^11 is 177,147
-    ∷ checked (row_with (tens 8) (at_each 8 []) 1 0 4) Passed
-    ∷ checked (row_with (tens 9) (at_each 9 []) 1 0 4) (Points 9)
-    ∷ checked (row_with (tens 10) (at_each 10 []) 1 0 0) Passed
-    ∷ checked (row_with (tens 11) (at_each 11 []) 1 0 0) (Points 11)
+    ∷ checked (row_with (tens 8) (at_each 8 []) 1 0 4) None
+    ∷ checked (row_with (tens 9) (at_each 9 []) 1 0 4) (Some (Points 9))
+    ∷ checked (row_with (tens 10) (at_each 10 []) 1 0 0) None
+    ∷ checked (row_with (tens 11) (at_each 11 []) 1 0 0) (Some (Points 11))
     ∷ []
 
 pub rows_checked : map (λ (r : Checked). check_of r.sheet) rows ≡ map (λ (r : Checked). r.says) rows
@@ -162,13 +161,13 @@ unfolding total any on bursts rates used from from_on groups grouped reads liste
 mixed_reads = refl
 
 -- "g | 0 or 2..9; 0 means 3", and the servers in order
-pub mixed_row : ((formed_of mixed).row.grid ≡ 3) × ((formed_of mixed).row.mode ≡ 1) × ((formed_of mixed).row.count ≡ 6)
-    × ((formed_of mixed).row.servers
+pub mixed_row : (formed_of mixed ≡ Ok (row_of mixed)) × ((row_of mixed).grid ≡ 3) × ((row_of mixed).mode ≡ 1) × ((row_of mixed).count ≡ 6)
+    × ((row_of mixed).servers
     ≡ record { rate = 50; latency = 1 } ∷ record { rate = 60; latency = 2 } ∷ record { rate = 70; latency = 3 } ∷ replicate 13
     no_server)
 unfolding total any crosses on bursts rates used from from_on groups grouped reads overlaps not_nested crowded lowest_crowded too_many listed tandem_of
     grid_of row_of check_of formed_of
-mixed_row = (refl, refl, refl, refl)
+mixed_row = (refl, refl, refl, refl, refl)
 
 -- P7 with its cross flow in two parts
 abbrev pub split7 : List ℕ

@@ -6,9 +6,9 @@ pub mod OfSheetLaws
 pub mod SameLaws
 pub mod Figures
 pub mod Unique
-pub mod Filling
 pub mod Checking
 pub mod Reaching
 pub mod Summing
+pub mod Filling
 pub mod Grouping
 pub mod Answers

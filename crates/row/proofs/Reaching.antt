@@ -4,51 +4,57 @@
 use mathlib.Core.Path.{◌≡◌, refl, sym, ap, ◌∙◌}
 use mathlib.Core.Bool.{Bool, true, false}
 use mathlib.Core.Logic.{◌⊎◌, inl, inr}
-use mathlib.Core.List.{List, [], ◌++◌}
+use mathlib.Core.List.{List, []}
 use Prim.Native.Nat.{ℕ, zero, suc, ◌+◌, ◌-◌, ◌≤◌, ◌<◌, max}
 use native.Mathlib.Numerals.{add-one}
 use native.Mathlib.Omega.{arith}
 use lib.Dec.{ltb, eqb}
 use borrow.Author.Tests.{lt-ltb, ltb-true, eq-eqb, eqb-true, eqb-false}
 use lib.ListN.{length, get_or, set, replicate, get_or-replicate, length-set}
+use Rattle.std.specs.Prelude.{slice_range, drop}
+use Rattle.std.proofs.lemmas.List.{get_or-take, get_or-drop, length-drop, length-take-le}
+use Rattle.std.specs.List.{list_any}
 use lib.Seq.{get_or-set_same, get_or-set_other}
 use Rattle.tandem.specs.declared.Flow.{Flow}
 use Rattle.tandem.specs.Sums.{weigh, any}
-use Rattle.tandem.specs.Tandem.{Tandem, Path, size, flow, on}
+use Rattle.tandem.specs.Tandem.{Tandem, Path, size, flow, on, no_flow}
+use Rattle.tandem.specs.Lent.{row_in, Listed}
 use Rattle.ground.proofs.OrderLaws.{le_or_lt}
 use Rattle.tandem.proofs.TestLaws.{not_passed, same_test}
 use Rattle.tandem.proofs.SumLaws.{any_at, any_found, none_passes}
 use Rattle.tandem.proofs.TandemLaws.{on_is}
-use Rattle.row.specs.Groups.{used, path, from, from_on, groups}
+use Rattle.row.specs.Groups.{used, path, from}
 use Rattle.row.specs.Checks.{not_nested}
 use Rattle.row.specs.Sentences.{Crossed}
 use Rattle.row.proofs.CheckLaws.{not_nested_crossed, crossed_not_nested}
 use Rattle.row.specs.Alike.{Inside}
-use Rattle.row.specs.Parts.{reach_of, Reached, overreached}
+use Rattle.row.specs.Parts.{reach_of, Reached, overreached_by, overreached}
+use Rattle.row.proofs.Checking.{list_any_any}
 
 pub begin_reaches : (row : Tandem) → Reached row 0 (replicate 18 0)
 unfolding reach_of
 begin_reaches row = record { long = refl; reach_at = λ i h. get_or-replicate {A = ℕ} 18 i 0 0 h }
 
 -- one flow more
-pub turn_reaches : (row : Tandem) (n : ℕ) (reaches : List ℕ) (a : Flow) (m : ℕ) → Reached row n reaches → a ≡ flow row n → a.first < 18
-    → m ≡ max (get_or reaches a.first 0) a.last → Reached row (n + 1) (set reaches a.first m)
+pub turn_reaches : (row : Tandem) (n : ℕ) (reaches : List ℕ) (m : ℕ) → Reached row n reaches → (flow row n).first < 18
+    → m ≡ max (get_or reaches (flow row n).first 0) (flow row n).last → Reached row (n + 1) (set reaches (flow row n).first m)
 unfolding reach_of
-turn_reaches row n reaches a m d is l q =
-    record { long = length-set reaches a.first m ∙ d.long; reach_at = λ i h. rw (add-one n) (go i h (eqb (flow row n).first i) refl) }
+turn_reaches row n reaches m d l q =
+    record { long = length-set reaches a m ∙ d.long; reach_at = λ i h. rw (add-one n) (go i h (eqb a i) refl) }
   where
-    go : (i : ℕ) → i < 18 → (b : Bool) → eqb (flow row n).first i ≡ b
-        → get_or (set reaches a.first m) i 0 ≡ max (reach_of row i n) (weigh (eqb (flow row n).first i) (flow row n).last)
+    a : ℕ
+    a = (flow row n).first
+
+    go : (i : ℕ) → i < 18 → (b : Bool) → eqb a i ≡ b → get_or (set reaches a m) i 0 ≡ max (reach_of row i n) (weigh (eqb a i) (flow row n).last)
     go i h true t =
-        let e : a.first ≡ i = ap (λ (z : Flow). z.first) is ∙ eqb-true (flow row n).first i t in
-        let g : get_or (set reaches a.first m) a.first 0 ≡ m = get_or-set_same reaches a.first m 0 (omega (arith, d.long)) in
-        let w : get_or (set reaches a.first m) i 0 ≡ m = ap (λ (k : ℕ). get_or (set reaches a.first m) k 0) (sym e) ∙ g in
-        let r : get_or reaches a.first 0 ≡ reach_of row i n = ap (λ (k : ℕ). get_or reaches k 0) e ∙ d.reach_at i h in
-        let z : a.last ≡ (flow row n).last = ap (λ (z : Flow). z.last) is in
-        rw t (omega (arith, w, q, r, z))
+        let e : a ≡ i = eqb-true a i t in
+        let g : get_or (set reaches a m) a 0 ≡ m = get_or-set_same reaches a m 0 (omega (arith, d.long)) in
+        let w : get_or (set reaches a m) i 0 ≡ m = ap (λ (k : ℕ). get_or (set reaches a m) k 0) (sym e) ∙ g in
+        let r : get_or reaches a 0 ≡ reach_of row i n = ap (λ (k : ℕ). get_or reaches k 0) e ∙ d.reach_at i h in
+        rw t (omega (arith, w, q, r))
     go i h false t =
-        let e : i ≡ a.first → ⊥ = λ k. eqb-false (flow row n).first i t (ap (λ (z : Flow). z.first) (sym is) ∙ sym k) in
-        rw t (omega (arith, get_or-set_other reaches a.first i m 0 e, d.reach_at i h))
+        let e : i ≡ a → ⊥ = λ k. eqb-false a i t (sym k) in
+        rw t (omega (arith, get_or-set_other reaches a i m 0 e, d.reach_at i h))
 
 -- no flow that begins at server i ends behind the furthest
 reach_covers : (row : Tandem) (i n f : ℕ) → f < n → (flow row f).first ≡ i → (flow row f).last ≤ reach_of row i n
@@ -128,12 +134,39 @@ any_same zero P Q h = refl
 any_same (suc n) P Q h = rw (any_same n P Q (λ d l. h d (omega arith)), h n (omega arith))
 
 -- check 6 of one flow by the array
-pub overreached_is : (row : Tandem) (n f : ℕ) (reaches : List ℕ) (a : Flow) (t : Bool) → Reached row n reaches → a ≡ flow row f → a.last ≤ 16
-    → t ≡ any (a.last - a.first) (λ d. ltb a.last (get_or reaches (a.first + 1 + d) 0)) → overreached row n f ≡ t
+overreached_is : (row : Tandem) (n f : ℕ) (reaches : List ℕ) → Reached row n reaches → (flow row f).first ≤ (flow row f).last → (flow row f).last ≤ 16
+    → overreached_by reaches (flow row f) ≡ overreached row n f
 unfolding overreached
-overreached_is row n f reaches a t r is l e =
-    ap (λ (z : Flow). any (z.last - z.first) (λ d. ltb z.last (reach_of row (z.first + 1 + d) n))) (sym is)
-    ∙ any_same (a.last - a.first) _ _ (λ d h. ap (λ (k : ℕ). ltb a.last k) (sym (r.reach_at (a.first + 1 + d) (omega arith)))) ∙ sym e
+overreached_is row n f reaches r p l =
+    list_any_any (λ reach. ltb a.last reach) 0 reached
+    ∙ ap (λ (k : ℕ). any k (λ d. ltb a.last (get_or reached d 0))) long
+    ∙ any_same (a.last - a.first) _ _ (λ d h. ap (λ (k : ℕ). ltb a.last k) (at_place d h))
+  where
+    a : Flow
+    a = flow row f
+
+    reached : List ℕ
+    reached = slice_range reaches (a.first + 1) (a.last + 1)
+
+    long : length reached ≡ a.last - a.first
+    long = omega (
+      arith,
+      length-take-le (a.last + 1 - (a.first + 1)) (drop (a.first + 1) reaches) (omega (arith, length-drop (a.first + 1) reaches, r.long)),
+    )
+
+    at_place : (d : ℕ) → d < a.last - a.first → get_or reached d 0 ≡ reach_of row (a.first + 1 + d) n
+    at_place d h =
+        get_or-take (a.last + 1 - (a.first + 1)) (drop (a.first + 1) reaches) d 0 (omega arith) ∙ get_or-drop (a.first + 1) reaches d 0
+        ∙ r.reach_at (a.first + 1 + d) (omega arith)
+
+-- and of all
+pub not_nested_is : (flows : List Flow) (reaches : List ℕ) → Listed 16 flows → Reached (row_in [] flows) (length flows) reaches
+    → list_any (overreached_by reaches) flows ≡ not_nested (row_in [] flows)
+not_nested_is flows reaches k r =
+    let row : Tandem = row_in [] flows in
+    list_any_any (overreached_by reaches) no_flow flows
+    ∙ any_same (length flows) _ _ (λ f h. let w = k.ranges f h in overreached_is row (length flows) f reaches r w.path w.ends)
+    ∙ nested_by_reach row
 
 -- the groups from a first server on
 module _ (row : Tandem) where
@@ -162,36 +195,9 @@ module _ (row : Tandem) where
   from_before on i (suc m) h =
       rw (unused (path i (suc m)) (λ f l a b. let c = on f l in omega (arith, a, b, c)), from_before on i m (omega arith))
 
-  -- nor does one begin behind the row
-  pub from_behind : Inside row → (i m : ℕ) → size row < i → from row i m ≡ []
-  unfolding from
-  from_behind inside i zero h = refl
-  from_behind inside i (suc m) h =
-      rw (unused (path i (suc m)) (λ f l a b. let c = (inside f l).0 in omega (arith, a, c)), from_behind inside i m h)
-
   pub reach_inside : Inside row → (i : ℕ) → reach_of row i (length row.flows) ≤ size row
   reach_inside inside i = go (le_or_lt (reach_of row i (length row.flows)) 0)
     where
       go : (reach_of row i (length row.flows) ≤ 0) ⊎ (0 < reach_of row i (length row.flows)) → reach_of row i (length row.flows) ≤ size row
       go (inl k) = omega arith
       go (inr k) = let x = reach_comes row i (length row.flows) k in omega (arith, x.3, (inside x.0 x.1).1)
-
-  -- so the paths from each first server, up to the furthest last one, are all
-  pub from_next : Inside row → (i : ℕ) → i ≤ size row
-      → from_on row (suc i) (size row - i) ≡ from row (suc i) (reach_of row (suc i) (length row.flows)) ++ from_on row (suc (suc i)) (size row - suc i)
-  unfolding from_on
-  from_next inside i h = go (size row - i) refl
-    where
-      go : (n : ℕ) → size row - i ≡ n
-          → from_on row (suc i) n ≡ from row (suc i) (reach_of row (suc i) (length row.flows)) ++ from_on row (suc (suc i)) (size row - suc i)
-      go zero e =
-          let a : size row - suc i ≡ 0 = omega arith in
-          let b = from_behind inside (suc i) (reach_of row (suc i) (length row.flows)) (omega arith) in
-          rw (a, b)
-      go (suc n) e =
-          let a : size row - suc i ≡ n = omega arith in
-          rw (a, from_reach (suc i) (size row) (reach_inside inside (suc i)))
-
-  pub groups_next : Inside row → groups row ≡ from row 1 (reach_of row 1 (length row.flows)) ++ from_on row 2 (size row - 1)
-  unfolding groups
-  groups_next inside = let a : size row - 0 ≡ size row = omega arith in ap (λ (n : ℕ). from_on row 1 n) (sym a) ∙ from_next inside 0 (omega arith)

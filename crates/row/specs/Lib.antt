@@ -4,8 +4,11 @@ pub mod Accepted
 pub mod Order
 pub mod RowFor
 pub mod OfSheet
+pub mod Refused
 pub mod Alike
 pub mod Sentences
 pub mod Passed
 pub mod Parts
+pub mod OneReached
+pub mod Held
 pub mod Contract

@@ -1,11 +1,10 @@
 -- The row that is handed on for a row with its single flows, a mode and a grid, and what the checks say of it: a sheet's row is one of these, and so is
 -- a part of a cut row.
 -- Assumes nothing.
-use Rattle.std.specs.Prelude.{ℕ, ◌-◌, cond, List, ◌++◌, ltb, length, replicate}
+use Rattle.std.specs.Prelude.{ℕ, ◌-◌, cond, Option, Some, None, Result, Ok, Err, List, ◌++◌, ltb, length, replicate}
 use Rattle.row.specs.declared.Row.{Row}
-use Rattle.row.specs.declared.Check.{Check}
-use Rattle.row.specs.declared.Check.TheVariants.{Passed, Crossing, Crowded, Points}
-use Rattle.row.specs.declared.Formed.{Formed}
+use Rattle.row.specs.declared.Unfit.{Unfit}
+use Rattle.row.specs.declared.Unfit.TheVariants.{Crossing, Crowded, Points}
 use Rattle.tandem.specs.Tandem.{Tandem, size, no_flow, no_server}
 use Rattle.tandem.specs.Crowded.{lowest_crowded}
 use Rattle.row.specs.Groups.{groups, reads}
@@ -27,29 +26,17 @@ row_for row mode g =
       grid = g;
     }
 
--- "then 3, 6, 7, 8": the first check that a row does not pass
-abbrev pub check_for : Tandem → ℕ → ℕ → Check
+-- "then 3, 6, 7, 8": the first check that a row does not pass, if there is one
+abbrev pub check_for : Tandem → ℕ → ℕ → Option Unfit
 check_for row mode g =
-    cond (not_nested row) Crossing
-    (cond (ltb 0 (lowest_crowded row 1 (size row))) (Crowded (lowest_crowded row 1 (size row))) (cond (too_many row mode g) (Points (length (groups row))) Passed))
-
-abbrev pub no_row : Row
-no_row =
-    record {
-      size = 0;
-      servers = replicate 16 no_server;
-      count = 0;
-      groups = replicate 32 no_flow;
-      mode = 0;
-      grid = 0;
-    }
+    cond (not_nested row) (Some Crossing)
+    (cond (ltb 0 (lowest_crowded row 1 (size row))) (Some (Crowded (lowest_crowded row 1 (size row))))
+    (cond (too_many row mode g) (Some (Points (length (groups row)))) None))
 
 -- a row is handed on only where it passes
-abbrev pub row_where : Check → Row → Row
-row_where Passed row = row
-row_where Crossing row = no_row
-row_where (Crowded j) row = no_row
-row_where (Points n) row = no_row
+abbrev pub row_where : Option Unfit → Row → Result Row Unfit
+row_where None row = Ok row
+row_where (Some unfit) row = Err unfit
 
-abbrev pub formed_for : Tandem → ℕ → ℕ → Formed
-formed_for row mode g = record { check = check_for row mode g; row = row_where (check_for row mode g) (row_for row mode g) }
+abbrev pub formed_for : Tandem → ℕ → ℕ → Result Row Unfit
+formed_for row mode g = row_where (check_for row mode g) (row_for row mode g)

@@ -1,10 +1,11 @@
 -- Refusal 7 is what its sentence says; and a row in range that passes it is sound.
 -- Assumes nothing.
-use Rattle.std.specs.Prelude.{◌≡◌, refl, Bool, true, false, cond, ◌⊎◌, ℕ, zero, suc, ◌+◌, ◌≤◌, ◌<◌, length}
+use Rattle.std.specs.Prelude.{◌≡◌, refl, Bool, true, false, cond, ◌⊎◌, ℕ, zero, suc, ◌+◌, ◌≤◌, ◌<◌, length, eqb, Some, None}
+use Rattle.std.proofs.Math.Dec.{eqb-suc-zero}
 use Rattle.std.proofs.Common.{sym, ap, ◌∙◌, true≢false, inl, inr, arith, lt-ltb, ltb-true, ltb-false}
 use Rattle.tandem.specs.Tandem.{Tandem, size, server, flow, crosses, rates}
 use Rattle.tandem.specs.Sound.{Lies, Sound}
-use Rattle.tandem.specs.Crowded.{Crowds, Lowest, crowded, lowest_crowded}
+use Rattle.tandem.specs.Crowded.{Crowds, Lowest, crowded, lowest_crowded, crowded_server}
 use Rattle.ground.proofs.OrderLaws.{le_or_lt}
 
 -- 7, at a server
@@ -84,6 +85,28 @@ crowded_none row h = go (le_or_lt (lowest_crowded row 1 (size row)) 0)
     go : (lowest_crowded row 1 (size row) ≤ 0) ⊎ (0 < lowest_crowded row 1 (size row)) → lowest_crowded row 1 (size row) ≡ 0
     go (inl l) = omega arith
     go (inr l) = let w = crowded_lowest row l in absurd (h (lowest_crowded row 1 (size row)) l (omega (arith, w.before)) w.crowds)
+
+-- the lowest such server, if there is one
+pub server_of_lowest : (row : Tandem) (j : ℕ) → 0 < j → lowest_crowded row 1 (size row) ≡ j → crowded_server row ≡ Some j
+server_of_lowest row zero h e = absurd (omega arith)
+server_of_lowest row (suc j) h e = rw (e, eqb-suc-zero j)
+
+pub none_of_lowest : (row : Tandem) → lowest_crowded row 1 (size row) ≡ 0 → crowded_server row ≡ None
+none_of_lowest row e = rw e
+
+pub lowest_of_server : (row : Tandem) (j : ℕ) → crowded_server row ≡ Some j → (0 < j) × (lowest_crowded row 1 (size row) ≡ j)
+lowest_of_server row j h = go (lowest_crowded row 1 (size row)) h
+  where
+    go : (n : ℕ) → cond (eqb n 0) None (Some n) ≡ Some j → (0 < j) × (n ≡ j)
+    go zero k = cc
+    go (suc n) k = let d = rw (eqb-suc-zero n) at k in let e : suc n ≡ j = cc in (omega arith, e)
+
+pub lowest_of_none : (row : Tandem) → crowded_server row ≡ None → lowest_crowded row 1 (size row) ≡ 0
+lowest_of_none row h = go (lowest_crowded row 1 (size row)) h
+  where
+    go : (n : ℕ) → cond (eqb n 0) None (Some n) ≡ None → n ≡ 0
+    go zero k = refl
+    go (suc n) k = let d = rw (eqb-suc-zero n) at k in cc
 
 -- a row in range that passes 7 is sound
 pub sound_row : (row : Tandem) → 0 < size row → 0 < length row.flows → (flow row 0).first ≡ 1 → (flow row 0).last ≡ size row

@@ -1,4 +1,5 @@
--- A row in lent lists, by number; lists into which a row was spread hold that row; and the lists of a valid sheet's row can be formed.
+-- A row in lent lists, by number; lists into which a row was spread hold that row; and the lists of a valid sheet's row can be formed. What holds of
+-- lists of numbers holds of the lists of servers and flows that they hold.
 -- Assumes nothing.
 use Rattle.std.specs.Prelude.{◌≡◌, refl, List, [], ◌∷◌, ◌++◌, ℕ, zero, suc, ◌+◌, ◌*◌, ◌≤◌, ◌<◌, length, get_or, set, take, drop}
 use Rattle.std.proofs.Common.{sym, ap, ◌∙◌, subst, append_assoc, arith, length-append, take-suc, drop-cons}
@@ -10,9 +11,10 @@ use Rattle.tandem.specs.declared.Flow.{Flow}
 use Rattle.tandem.specs.Tandem.{Tandem, size, flow, no_flow, no_server}
 use Rattle.tandem.specs.Crowded.{lowest_crowded}
 use Rattle.tandem.specs.Sound.{Sound, Limits}
+use Rattle.tandem.specs.Ranges.{Ranged}
 use Rattle.tandem.specs.OfSheet.{listed, tandem_of}
 use Rattle.tandem.proofs.OfSheetLaws.{length_listed, listed_at, row_size, row_flows, ranged, limits, sound}
-use Rattle.tandem.specs.Lent.{server_in, lent_flow, flows_in, tandem_in, alone, spread_servers, spread_flows, Wide, Laid, Lent}
+use Rattle.tandem.specs.Lent.{server_in, lent_flow, flows_in, tandem_in, alone, spread_servers, spread_flows, Wide, Listed, Handed, Laid, Lent}
 
 -- values that are a list's first n, in order
 pub listed_take : {B : Type 0} (n : ℕ) (f : ℕ → B) (l : List B) (d : B)
@@ -170,3 +172,62 @@ laid_most n flows m h = record { short = omega arith; some = h.some; few = h.few
       moves = r.moves;
       small_rate = r.small_rate;
     }
+
+-- the flows that a list of numbers holds, and its row
+pub laid_listed : (n : ℕ) (flows : List ℕ) (m : ℕ) → Laid n flows m → Listed n (flows_in flows m)
+laid_listed n flows m h =
+    let c : length (flows_in flows m) ≡ m = count_held flows m in
+    record {
+      short = h.short;
+      some = omega (arith, c, h.some);
+      few = omega (arith, c, h.few);
+      ranges =
+          λ f l. let k : f < m = omega (arith, c) in subst (λ (a : Flow). Wide n a) (sym (flow_held flows m f k)) (h.ranges f k);
+    }
+
+pub lent_handed : (servers : List ℕ) (n : ℕ) (flows : List ℕ) (m : ℕ) → Lent servers n flows m → Handed (tandem_in servers n flows m)
+lent_handed servers n flows m h = record {
+  listed = subst (λ (k : ℕ). Listed k (flows_in flows m)) (sym (length_listed n (server_in servers))) (laid_listed n flows m h.laid);
+  sound = h.sound;
+  limits = h.limits;
+}
+
+-- flows of a row of at most sixteen servers
+pub listed_most : (n : ℕ) (flows : List Flow) → Listed n flows → Listed 16 flows
+listed_most n flows h = record { short = omega arith; some = h.some; few = h.few; ranges = λ f l. wider f (h.ranges f l) }
+  where
+    wider : (f : ℕ) → Wide n (get_or flows f no_flow) → Wide 16 (get_or flows f no_flow)
+    wider f r = record {
+      begins = r.begins;
+      path = r.path;
+      ends = omega (arith, r.ends, h.short);
+      small_burst = r.small_burst;
+      moves = r.moves;
+      small_rate = r.small_rate;
+    }
+
+-- the flows of a valid sheet, and its row
+pub sheet_listed : (xs : List ℕ) → Valid xs → Listed (server_count xs) (tandem_of xs).flows
+sheet_listed xs v = record {
+  short = v.servers.most;
+  some = omega (arith, row_flows xs);
+  few = omega (arith, row_flows xs, v.flows.most);
+  ranges = λ f l. wide f (ranged xs v f l);
+}
+  where
+    wide : (f : ℕ) → Ranged (server_count xs) 65535 (flow (tandem_of xs) f) → Wide (server_count xs) (flow (tandem_of xs) f)
+    wide f r = record {
+      begins = r.begins;
+      path = r.path;
+      ends = r.ends;
+      small_burst = omega (arith, r.small_burst);
+      moves = r.moves;
+      small_rate = r.small_rate;
+    }
+
+pub sheet_handed : (xs : List ℕ) → Valid xs → lowest_crowded (tandem_of xs) 1 (size (tandem_of xs)) ≡ 0 → Handed (tandem_of xs)
+sheet_handed xs v c = record {
+  listed = subst (λ (k : ℕ). Listed k (tandem_of xs).flows) (sym (row_size xs)) (sheet_listed xs v);
+  sound = sound xs v c;
+  limits = limits xs v;
+}

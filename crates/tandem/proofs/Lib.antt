@@ -7,4 +7,3 @@ pub mod LentLaws
 pub mod Unique
 pub mod Figures
 pub mod Loading
-pub mod Fronts

@@ -1,26 +1,30 @@
 -- The rates added up for each server: a path's servers get a flow's rate one by one, the flows are added one by one, and the sums tell
 -- which server is crowded.
 -- Assumes nothing.
-use mathlib.Core.Path.{◌≡◌, refl, ap, ◌∙◌}
-use mathlib.Core.Bool.{Bool, true, false, ◌&&◌}
+use mathlib.Core.Path.{◌≡◌, refl, sym, ap, ◌∙◌}
+use mathlib.Core.Bool.{true, false, ◌&&◌}
+use mathlib.Core.Logic.{◌⊎◌, inl, inr}
 use mathlib.Core.List.{List}
 use Prim.Native.Nat.{ℕ, suc, ◌+◌, ◌-◌, ◌≤◌, ◌<◌}
 use native.Mathlib.Numerals.{add-one}
 use native.Mathlib.Omega.{arith}
-use lib.Dec.{ltb, leb, eqb}
-use borrow.Author.Tests.{lt-ltb, le-leb, leb-true, eqb-true, eqb-false}
-use lib.ListN.{length, get_or, set, replicate, get_or-replicate, length-set}
-use lib.Seq.{get_or-set_same, get_or-set_other}
+use lib.Dec.{ltb, leb}
+use borrow.Author.Tests.{lt-ltb, le-leb, leb-true}
+use lib.ListN.{length, get_or, take, replicate, get_or-replicate}
+use borrow.Rule.Slice.PartMut.{mid_of, put_mid, mid_len, same_len_mid}
+use Rattle.std.proofs.lemmas.List.{get_or-take, get_or-drop, length-take-le, places}
+use Rattle.std.proofs.Common.{rules}
+use Rattle.ground.proofs.OrderLaws.{le_or_lt}
 use Rattle.sheet.specs.Valid.{Valid, server_count}
 use Rattle.tandem.specs.declared.Flow.{Flow}
 use Rattle.tandem.specs.declared.Server.{Server}
 use Rattle.tandem.specs.Sums.{weigh, total}
-use Rattle.tandem.specs.Tandem.{Tandem, flow, crosses, rates}
+use Rattle.tandem.specs.Tandem.{Tandem, server, flow, crosses, rates}
 use Rattle.tandem.specs.Crowded.{crowded, lowest_crowded}
 use Rattle.tandem.specs.OfSheet.{server_of, tandem_of}
 use Rattle.tandem.proofs.OfSheetLaws.{row_flows, row_server, ranged}
 use Rattle.tandem.specs.Ranges.{Ranged}
-use Rattle.tandem.proofs.TestLaws.{not_passed, both_true, same_test}
+use Rattle.tandem.proofs.TestLaws.{not_passed, both_true}
 use Rattle.tandem.proofs.SumLaws.{total_most, weigh_most}
 use Rattle.tandem.specs.Loads.{Roomy, Added, Loaded}
 
@@ -33,56 +37,48 @@ off_path first last j x h = rw (not_passed (leb first j && leb j last) (λ e.
 on_path_lem : (first last j x : ℕ) → first ≤ j → j ≤ last → weigh (leb first j && leb j last) x ≡ x
 on_path_lem first last j x h k = rw (le-leb first j h, le-leb j last k)
 
--- a path with one server more is the same elsewhere
-same_path : (first i j x : ℕ) → (j ≡ i + 1 → ⊥) → weigh (leb first j && leb j (i + 1)) x ≡ weigh (leb first j && leb j i) x
-same_path first i j x h =
-    rw (same_test (leb j (i + 1)) (leb j i) (λ e. le-leb j i (closer (leb-true j (i + 1) e))) (λ e. le-leb j (i + 1) (further (leb-true j i e))))
-  where
-    closer : j ≤ i + 1 → j ≤ i
-    closer k = omega arith
+-- a rate added to what stands at a path's servers, from the first to the last; the others are as they were
+module _ (first last rate : ℕ) (before : List ℕ) (h : 1 ≤ first) (g : first ≤ last) (l : last ≤ 16) (r : Roomy before rate) where
+  abbrev part : List ℕ
+  part = mid_of (first - 1) (last - (first - 1)) before
 
-    further : j ≤ i → j ≤ i + 1
-    further k = omega arith
+  part_long : length part ≡ last - (first - 1)
+  part_long = mid_len (first - 1) last before (omega (arith, r.long))
 
-pub begin_load : (first rate : ℕ) (loads : List ℕ) → 1 ≤ first → length loads ≡ 16 → Added first (first - 1) rate loads loads
-begin_load first rate loads h l = record { long = l; load_at = λ j a b. omega (arith, off_path first (first - 1) j rate (λ k. omega arith)) }
+  part_at : (k : ℕ) → k < last - (first - 1) → get_or part k 0 ≡ get_or before (first + k - 1) 0
+  part_at k a =
+      let e : first - 1 + k ≡ first + k - 1 = omega arith in
+      get_or-take _ _ k 0 a ∙ get_or-drop (first - 1) before k 0 ∙ ap (λ (i : ℕ). get_or before i 0) e
 
-module _ (first i rate : ℕ) (before now : List ℕ) (d : Added first i rate before now) (l : i < 16) where
-  -- what stands at the next server is still as it was
-  as_before : get_or now i 0 ≡ get_or before i 0
-  as_before =
-      let a : get_or now (i + 1 - 1) 0 ≡ get_or before (i + 1 - 1) 0 + weigh (leb first (i + 1) && leb (i + 1) i) rate = d.load_at (i + 1) (omega arith) (omega arith) in
-      let e : i + 1 - 1 ≡ i = omega arith in
-      let b : get_or now i 0 ≡ get_or before i 0 + weigh (leb first (i + 1) && leb (i + 1) i) rate = rw e at a in
-      omega (arith, b, off_path first i (i + 1) rate (λ k. omega arith))
+  pub part_fits : (k : ℕ) → k < length part → get_or part k 0 + rate < 18446744073709551616
+  part_fits k a =
+      let b : k < last - (first - 1) = omega (arith, part_long) in
+      omega (arith, part_at k b, r.room (first + k) (omega arith) (omega arith))
 
-  pub load_fits : Roomy before rate → get_or now i 0 + rate < 18446744073709551616
-  load_fits r =
-      let a : get_or before (i + 1 - 1) 0 + rate < 18446744073709551616 = r.room (i + 1) (omega arith) (omega arith) in
-      let e : i + 1 - 1 ≡ i = omega arith in
-      let b : get_or before i 0 + rate < 18446744073709551616 = rw e at a in
-      omega (arith, b, as_before)
-
-  pub turn_load : first ≤ i + 1 → Added first (i + 1) rate before (set now i (get_or now i 0 + rate))
-  turn_load h =
-      record {
-        long = length-set now i (get_or now i 0 + rate) ∙ d.long;
-        load_at = λ j a b. go j a b (eqb (j - 1) i) refl;
-      }
+  pub part_added : (now : List ℕ) → length now ≡ length part → ((k : ℕ) → k < length part → get_or now k 0 ≡ get_or part k 0 + rate)
+      → Added first last rate before (put_mid (first - 1) (last - (first - 1)) before now)
+  part_added now m e = record { long = same_len_mid (first - 1) (last - (first - 1)) before now m ∙ r.long; load_at = λ j a b. at j a b (le_or_lt first j) (le_or_lt j last) }
     where
-      go : (j : ℕ) → 1 ≤ j → j ≤ 16 → (b : Bool) → eqb (j - 1) i ≡ b
-          → get_or (set now i (get_or now i 0 + rate)) (j - 1) 0 ≡ get_or before (j - 1) 0 + weigh (leb first j && leb j (i + 1)) rate
-      go j a b true t =
-          let q : j - 1 ≡ i = eqb-true (j - 1) i t in
-          let s : i < length now = omega (arith, d.long) in
-          let g : get_or (set now i (get_or now i 0 + rate)) i 0 ≡ get_or now i 0 + rate = get_or-set_same now i (get_or now i 0 + rate) 0 s in
-          let w = on_path_lem first (i + 1) j rate (omega arith) (omega arith) in
-          rw q (omega (arith, g, w, as_before))
-      go j a b false t =
-          let q : j - 1 ≡ i → ⊥ = eqb-false (j - 1) i t in
-          let g = get_or-set_other now i (j - 1) (get_or now i 0 + rate) 0 q in
-          let w = same_path first i j rate (λ e. q (omega arith)) in
-          omega (arith, g, w, d.load_at j a b)
+      after : List ℕ
+      after = put_mid (first - 1) (last - (first - 1)) before now
+
+      long : length now ≡ last - (first - 1)
+      long = m ∙ part_long
+
+      at : (j : ℕ) → 1 ≤ j → j ≤ 16 → (first ≤ j) ⊎ (j < first) → (j ≤ last) ⊎ (last < j)
+          → get_or after (j - 1) 0 ≡ get_or before (j - 1) 0 + weigh (leb first j && leb j last) rate
+      at j a b (inl c) (inl d) =
+          let k : j - first < last - (first - 1) = omega arith in
+          let s : get_or after (j - 1) 0 ≡ get_or now (j - first) 0 = search (rules, places) in
+          let i : first + (j - first) - 1 ≡ j - 1 = omega arith in
+          let p : get_or part (j - first) 0 ≡ get_or before (j - 1) 0 = part_at (j - first) k ∙ ap (λ (z : ℕ). get_or before z 0) i in
+          omega (arith, s, p, e (j - first) (omega (arith, part_long)), on_path_lem first last j rate c d)
+      at j a b (inr c) d =
+          let s : get_or after (j - 1) 0 ≡ get_or before (j - 1) 0 = search (rules, places) in
+          omega (arith, s, off_path first last j rate (λ k. omega arith))
+      at j a b (inl c) (inr d) =
+          let s : get_or after (j - 1) 0 ≡ get_or before (j - 1) 0 = search (rules, places) in
+          omega (arith, s, off_path first last j rate (λ k. d))
 
 -- where the loop over the flows stands once it has read flow f
 pub record Carrying (xs : List ℕ) (f : ℕ) (loads : List ℕ) (a : Flow) : Type 0 where
@@ -125,27 +121,35 @@ module _ {xs : List ℕ} {f : ℕ} {loads : List ℕ} {a : Flow} (d : Carrying x
           → get_or after (j - 1) 0 ≡ total f (λ g. weigh (crosses row g j) (flow row g).rate) + weigh (crosses row f j) (flow row f).rate
       go j h k = omega (arith, t.load_at j h k, d.loaded.load_at j h k, adds j)
 
--- a server's rate below the sum of the rates there: the server is crowded
-pub crowded_is : (xs : List ℕ) (j : ℕ) (loads : List ℕ) (s : Server) → Valid xs → Loaded (tandem_of xs) (length (tandem_of xs).flows) loads
-    → 1 ≤ j → j ≤ server_count xs → s ≡ server_of xs (j - 1) → crowded (tandem_of xs) j ≡ ltb s.rate (get_or loads (j - 1) 0)
-unfolding crowded rates
-crowded_is xs j loads s v d h k e =
-    let l : j - 1 < server_count xs = omega arith in
-    rw (e, row_server xs j l, d.load_at j h (omega (arith, v.servers.most)))
+-- the first n sums are those at the n servers: a server's rate below the sum there, the server is crowded
+module _ (xs : List ℕ) (n j : ℕ) (loads : List ℕ) (v : Valid xs) (d : Loaded (tandem_of xs) (length (tandem_of xs).flows) loads) (e : n ≡ server_count xs)
+  where
+    pub sums_long : length (take n loads) ≡ n
+    sums_long = length-take-le n loads (omega (arith, v.servers.most, d.long))
 
--- the loop over the servers: one server more is passed
+    sum_at : j < n → get_or (take n loads) j 0 ≡ rates (tandem_of xs) (λ f. crosses (tandem_of xs) f (j + 1))
+    unfolding rates
+    sum_at h =
+        let i : j ≡ j + 1 - 1 = omega arith in
+        get_or-take n loads j 0 h ∙ ap (λ (z : ℕ). get_or loads z 0) i ∙ d.load_at (j + 1) (omega arith) (omega (arith, v.servers.most))
+
+    pub crowded_is : (s : Server) → s ≡ server_of xs j → j < n → crowded (tandem_of xs) (j + 1) ≡ ltb s.rate (get_or (take n loads) j 0)
+    unfolding crowded
+    crowded_is s q h =
+        let i : j + 1 - 1 ≡ j = omega arith in
+        let r : server (tandem_of xs) (j + 1) ≡ s = row_server xs (j + 1) (omega arith) ∙ ap (server_of xs) i ∙ sym q in
+        rw (r, sum_at h)
+
+-- the loop over the servers: j are passed, and one more
 module _ (row : Tandem) (n j : ℕ) where
-  pub lowest_here : j ≤ n → crowded row j ≡ true → lowest_crowded row j (n + 1 - j) ≡ j
+  pub lowest_here : j < n → crowded row (j + 1) ≡ true → lowest_crowded row (j + 1) (n - j) ≡ j + 1
   unfolding lowest_crowded
-  lowest_here h k = let e : n + 1 - j ≡ suc (n - j) = omega arith in rw (e, k)
+  lowest_here h k = let e : n - j ≡ suc (n - (j + 1)) = omega arith in rw (e, k)
 
-  pub lowest_behind : j ≤ n → crowded row j ≡ false → lowest_crowded row (j + 1) (n + 1 - (j + 1)) ≡ lowest_crowded row j (n + 1 - j)
+  pub lowest_behind : j < n → crowded row (j + 1) ≡ false → lowest_crowded row (j + 1 + 1) (n - (j + 1)) ≡ lowest_crowded row (j + 1) (n - j)
   unfolding lowest_crowded
-  lowest_behind h k =
-      let e : n + 1 - j ≡ suc (n - j) = omega arith in
-      let d : n + 1 - (j + 1) ≡ n - j = omega arith in
-      rw (e, k, d, add-one j)
+  lowest_behind h k = let e : n - j ≡ suc (n - (j + 1)) = omega arith in rw (e, k, add-one (j + 1))
 
-  pub lowest_none : n < j → lowest_crowded row j (n + 1 - j) ≡ 0
+  pub lowest_none : n ≤ j → lowest_crowded row (j + 1) (n - j) ≡ 0
   unfolding lowest_crowded
-  lowest_none h = let e : n + 1 - j ≡ 0 = omega arith in rw e
+  lowest_none h = let e : n - j ≡ 0 = omega arith in rw e

@@ -1,10 +1,12 @@
 -- The row of a valid sheet: its parts by number, its ranges, and that a row that passes check 7 is sound and within the limits.
 -- Assumes nothing.
 use Rattle.std.specs.Prelude.{◌≡◌, refl, ◌⊎◌, List, [], ◌∷◌, ◌++◌, ℕ, zero, suc, ◌+◌, ◌-◌, ◌≤◌, ◌<◌, length, get_or}
-use Rattle.std.proofs.Common.{sym, ap, ◌∙◌, inl, inr, arith, length-append}
+use Rattle.std.proofs.Common.{sym, ap, ◌∙◌, inl, inr, arith, length-append, ext_get_or}
 use Rattle.std.proofs.Math.ListN.{get_or-append, get_or-eq_default}
 use Rattle.std.proofs.lemmas.List.{get_or_at}
 use Rattle.sheet.specs.Valid.{Valid, server_count, flow_count}
+use Rattle.tandem.specs.declared.Server.{Server}
+use Rattle.tandem.specs.declared.Flow.{Flow}
 use Rattle.tandem.specs.Tandem.{size, server, flow, no_flow, no_server}
 use Rattle.tandem.specs.Crowded.{lowest_crowded}
 use Rattle.tandem.specs.Sound.{Lies, Sound, Limits}
@@ -49,6 +51,26 @@ row_watched xs = refl
 pub row_flow : (xs : List ℕ) (k : ℕ) → k < flow_count xs → flow (tandem_of xs) (suc k) ≡ flow_of xs k
 unfolding tandem_of
 row_flow xs k h = listed_at (flow_count xs) (flow_of xs) k no_flow h
+
+pub row_cross : (xs : List ℕ) (f : ℕ) → 0 < f → f < length (tandem_of xs).flows → flow (tandem_of xs) f ≡ flow_of xs (f - 1)
+row_cross xs zero h l = absurd (omega arith)
+row_cross xs (suc k) h l = let e : suc k - 1 ≡ k = omega arith in row_flow xs k (omega (arith, row_flows xs)) ∙ ap (flow_of xs) (sym e)
+
+pub ruleset parts = (row_flows, row_watched, row_cross)
+
+-- lists of as many servers, or flows, each the row's
+pub row_servers : (xs : List ℕ) (l : List Server) → length l ≡ server_count xs → ((j : ℕ) → j < server_count xs → get_or l j no_server ≡ server_of xs j)
+    → l ≡ (tandem_of xs).servers
+unfolding tandem_of
+row_servers xs l n h =
+    let m : length l ≡ length (listed (server_count xs) (server_of xs)) = n ∙ sym (length_listed (server_count xs) (server_of xs)) in
+    ext_get_or no_server l _ m (λ j k.
+    let i : j < server_count xs = omega arith in
+    h j i ∙ sym (listed_at (server_count xs) (server_of xs) j no_server i))
+
+pub row_all_flows : (xs : List ℕ) (l : List Flow) → length l ≡ length (tandem_of xs).flows
+    → ((f : ℕ) → f < length (tandem_of xs).flows → get_or l f no_flow ≡ flow (tandem_of xs) f) → l ≡ (tandem_of xs).flows
+row_all_flows xs l n h = ext_get_or no_flow l (tandem_of xs).flows n (λ f k. h f (omega arith))
 
 module _ (xs : List ℕ) (v : Valid xs) where
   pub ranged : (f : ℕ) → f < length (tandem_of xs).flows → Ranged (server_count xs) 65535 (flow (tandem_of xs) f)

@@ -1,6 +1,6 @@
 -- Each public function leaves one possible result: two results, and two contents, that both meet its contract are equal.
 -- Assumes nothing.
-use Rattle.std.specs.Prelude.{◌≡◌, List, ℕ, ◌+◌, ◌-◌, ◌<◌, length, get_or}
+use Rattle.std.specs.Prelude.{◌≡◌, Option, List, ℕ, ◌+◌, ◌-◌, ◌<◌, length, get_or}
 use Rattle.std.proofs.Common.{sym, ap, ◌∙◌, arith, ext_get_or}
 use Rattle.ground.proofs.ValueLaws.{one_value}
 use Rattle.tandem.specs.declared.Server.{Server}
@@ -32,10 +32,10 @@ watched_flow_unique xs a b h k = one_value h.is k.is
 pub flow_at_unique : (xs : List ℕ) (f : ℕ) (a b : Flow) → FlowAt xs f a → FlowAt xs f b → a ≡ b
 flow_at_unique xs f a b h k = one_value h.is k.is
 
-pub list_servers_unique : (xs before a b : List ℕ) → ListServers xs before a → ListServers xs before b → a ≡ b
+pub list_servers_unique : (xs : List ℕ) (before a b : List Server) → ListServers xs before a → ListServers xs before b → a ≡ b
 list_servers_unique xs before a b h k = one_value h.holds k.holds
 
-pub list_flows_unique : (xs before a b : List ℕ) → ListFlows xs before a → ListFlows xs before b → a ≡ b
+pub list_flows_unique : (xs : List ℕ) (before a b : List Flow) → ListFlows xs before a → ListFlows xs before b → a ≡ b
 list_flows_unique xs before a b h k = one_value h.holds k.holds
 
 pub flow_in_unique : (flows : List ℕ) (f : ℕ) (a b : Flow) → FlowIn flows f a → FlowIn flows f b → a ≡ b
@@ -51,5 +51,5 @@ loads_of_unique xs a b h k = ext_get_or 0 a b (h.loads.long ∙ sym k.loads.long
         let y = k.loads.load_at (i + 1) (omega arith) (omega (arith, h.loads.long)) in
         ap (λ (j : ℕ). get_or a j 0) (sym e) ∙ x ∙ sym y ∙ ap (λ (j : ℕ). get_or b j 0) e
 
-pub lowest_crowded_unique : (xs : List ℕ) (a b : ℕ) → LowestCrowded xs a → LowestCrowded xs b → a ≡ b
+pub lowest_crowded_unique : (xs : List ℕ) (a b : Option ℕ) → LowestCrowded xs a → LowestCrowded xs b → a ≡ b
 lowest_crowded_unique xs a b h k = one_value h.is k.is

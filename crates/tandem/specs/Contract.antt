@@ -1,15 +1,15 @@
 -- What each public function promises: one record a function, of its inputs, the entries' contents and its result. Unique.antt proves that these leave
 -- one result.
 -- Assumes nothing.
-use Rattle.std.specs.Prelude.{◌≡◌, List, ◌++◌, ℕ, ◌*◌, ◌≤◌, length, drop}
+use Rattle.std.specs.Prelude.{◌≡◌, Option, List, ◌++◌, ℕ, ◌≤◌, length, drop}
 use Rattle.sheet.specs.Valid.{server_count, flow_count, watched_place}
 use Rattle.tandem.specs.declared.Server.{Server}
 use Rattle.tandem.specs.declared.Flow.{Flow}
-use Rattle.tandem.specs.Tandem.{size, flow}
-use Rattle.tandem.specs.Crowded.{lowest_crowded}
+use Rattle.tandem.specs.Tandem.{flow}
+use Rattle.tandem.specs.Crowded.{crowded_server}
 use Rattle.tandem.specs.OfSheet.{server_of, flow_of, watched_of, tandem_of}
 use Rattle.tandem.specs.Loads.{Loaded}
-use Rattle.tandem.specs.Lent.{lent_flow, spread_servers, spread_flows}
+use Rattle.tandem.specs.Lent.{lent_flow}
 
 -- `server_count`
 pub record ServerCount (xs : List ℕ) (r : ℕ) : Type 0 where
@@ -54,16 +54,16 @@ pub record FlowAt (xs : List ℕ) (f : ℕ) (r : Flow) : Type 0 where
   pub is : r ≡ flow (tandem_of xs) f
 
 -- `list_servers`
-pub record ListServers (xs before after : List ℕ) : Type 0 where
-  -- the servers' numbers, and behind them what stood there
-  pub holds : after ≡ spread_servers (tandem_of xs).servers ++ drop (2 * server_count xs) before
+pub record ListServers (xs : List ℕ) (before after : List Server) : Type 0 where
+  -- the servers, and behind them what stood there
+  pub holds : after ≡ (tandem_of xs).servers ++ drop (server_count xs) before
 
 -- `list_flows`
-pub record ListFlows (xs before after : List ℕ) : Type 0 where
-  -- the flows' numbers, and behind them what stood there
-  pub holds : after ≡ spread_flows (tandem_of xs).flows ++ drop (4 * length (tandem_of xs).flows) before
+pub record ListFlows (xs : List ℕ) (before after : List Flow) : Type 0 where
+  -- the flows, and behind them what stood there
+  pub holds : after ≡ (tandem_of xs).flows ++ drop (length (tandem_of xs).flows) before
 
--- `flow_in`
+-- of a list of numbers into which flows were spread (`spread_flows`)
 pub record FlowIn (flows : List ℕ) (f : ℕ) (r : Flow) : Type 0 where
   -- flow f of the list
   pub is : r ≡ lent_flow flows f
@@ -74,6 +74,6 @@ pub record LoadsOf (xs r : List ℕ) : Type 0 where
   pub loads : Loaded (tandem_of xs) (length (tandem_of xs).flows) r
 
 -- `lowest_crowded`
-pub record LowestCrowded (xs : List ℕ) (r : ℕ) : Type 0 where
-  -- 7: the lowest server whose rates, the watched flow's included, "sum above R"; 0 if there is none
-  pub is : r ≡ lowest_crowded (tandem_of xs) 1 (size (tandem_of xs))
+pub record LowestCrowded (xs : List ℕ) (r : Option ℕ) : Type 0 where
+  -- 7: the lowest server whose rates, the watched flow's included, "sum above R", if there is one
+  pub is : r ≡ crowded_server (tandem_of xs)

@@ -1,6 +1,7 @@
 pub mod Sums
 pub mod Tandem
 pub mod Crowded
+pub mod OneValid
 pub mod Sound
 pub mod Ranges
 pub mod OfSheet

@@ -1,51 +1,26 @@
-use mathlib.Core.Path.{◌≡◌, sym, ◌∙◌, subst}
-use mathlib.Core.Bool.{false}
-use Prim.Native.Nat.{ℕ}
-use native.Mathlib.Omega.{arith}
-use Rattle.tandem.specs.Sums.{any}
-use Rattle.tandem.proofs.SumLaws.{any_at}
-use Rattle.tandem.specs.Lent.{alone, Wide}
-use Rattle.tandem.proofs.LentLaws.{flow_held, count_held}
-use Rattle.row.specs.Checks.{not_nested}
-use Rattle.row.specs.Parts.{overreached}
-use Rattle.row.proofs.Checking.{any_none, any_more}
-use Rattle.row.proofs.Reaching.{overreached_is, nested_by_reach}
+-- `row::is_not_nested` meets its contract: some flow is overreached exactly if two paths cross (proofs/Reaching.antt).
+-- Assumes nothing.
+use Rattle.std.proofs.Common.{rules, ◌∙◌, sym, subst}
+use borrow.Author.Tests.{tests}
+use Rattle.std.proofs.lemmas.List.{get_or_default}
+use Rattle.std.proofs.lemmas.Iterator.{YieldsList-from_slice}
+use Rattle.std.proofs.lemmas.Iterator.Search.{any_from_yields_List}
+use Rattle.std.proofs.lemmas.Iterator.Adapters.{serves_from_places}
+use Rattle.tandem.specs.declared.Flow.{Flow}
+use Rattle.tandem.specs.Tandem.{no_flow}
+use Rattle.tandem.specs.Lent.{Wide}
+use Rattle.row.specs.Parts.{overreached_by}
+use Rattle.row.proofs.Reaching.{not_nested_is}
 use Rattle.row.proofs.is_not_nested.Goals as goal
 
-pub loop-f-init : goal.loop-f-init
-loop-f-init c = (omega arith, any_none _)
-
-pub flow_in-a-requires : goal.flow_in-a-requires
-flow_in-a-requires c = let r = c.requires.0 in
-    (omega (arith, r.few, c.loop-f-test.true), omega (arith, r.room, c.loop-f-test.true))
-
-pub is_crossed-requires : goal.is_crossed-requires
-is_crossed-requires c =
-    let ranged : Wide 16 c.flow_in-a.result = rw c.flow_in-a.ensures.is (c.requires.0.ranges c.loop-f.f c.loop-f-test.true) in
-    let r = ranged in (r.path, r.ends, c.requires.1.long)
-
-pub returns-then-is_crossed : goal.returns-then-is_crossed
-returns-then-is_crossed c =
-    let ranged : Wide 16 c.flow_in-a.result = rw c.flow_in-a.ensures.is (c.requires.0.ranges c.loop-f.f c.loop-f-test.true) in
-    let said : let a = c.args in overreached (alone a.flows.now a.n) a.n c.loop-f.f ≡ c.is_crossed.result = let a = c.args in overreached_is (alone a.flows.now a.n) a.n c.loop-f.f a.reaches.now c.flow_in-a.result c.is_crossed.result c.requires.1 (c.flow_in-a.ensures.is ∙ sym (flow_held a.flows.now a.n c.loop-f.f c.loop-f-test.true)) (ranged).ends c.is_crossed.ensures in
-    let whole : let a = c.args in any a.n (overreached (alone a.flows.now a.n) a.n) ≡ not_nested (alone a.flows.now a.n) = let a = c.args in let row = alone a.flows.now a.n in subst (λ (k : ℕ). any k (overreached row k) ≡ not_nested row) (count_held a.flows.now a.n) (nested_by_reach row) in
-    record {
-      is = let a = c.args in
-          sym (sym (whole) ∙ any_at a.n c.loop-f.f (overreached (alone a.flows.now a.n) a.n) c.loop-f-test.true (said ∙ c.if-is_crossed.true));
-    }
-
-pub loop-f-preserved : goal.loop-f-preserved
-loop-f-preserved c =
-    let ranged : Wide 16 c.flow_in-a.result = rw c.flow_in-a.ensures.is (c.requires.0.ranges c.loop-f.f c.loop-f-test.true) in
-    let said : let a = c.args in overreached (alone a.flows.now a.n) a.n c.loop-f.f ≡ c.is_crossed.result = let a = c.args in overreached_is (alone a.flows.now a.n) a.n c.loop-f.f a.reaches.now c.flow_in-a.result c.is_crossed.result c.requires.1 (c.flow_in-a.ensures.is ∙ sym (flow_held a.flows.now a.n c.loop-f.f c.loop-f-test.true)) (ranged).ends c.is_crossed.ensures in
-    let a = c.args in
-    (omega arith, any_more c.loop-f.f (overreached (alone a.flows.now a.n) a.n) c.loop-f.invariant.1 (said ∙ c.if-is_crossed.false))
+pub any-requires-clause-callable : goal.any-requires-clause-callable
+any-requires-clause-callable c =
+    serves_from_places (YieldsList-from_slice c.args.flows.now cc) (λ x q k. search (rules, tests)) (λ x k h e.
+    let wide : Wide 16 x.now = subst (λ (a : Flow). Wide 16 a) (sym (e ∙ get_or_default c.args.flows.now k x.now no_flow h)) (c.requires.0.ranges k h) in
+    search rules)
 
 pub returns : goal.returns
-returns c =
-    let whole : let a = c.args in any a.n (overreached (alone a.flows.now a.n) a.n) ≡ not_nested (alone a.flows.now a.n) = let a = c.args in let row = alone a.flows.now a.n in subst (λ (k : ℕ). any k (overreached row k) ≡ not_nested row) (count_held a.flows.now a.n) (nested_by_reach row) in
-    record {
-      is = let a = c.args in
-          let e : c.loop-f.f ≡ a.n = omega (arith, c.loop-f.invariant.0, c.loop-f-test.false) in
-          sym (sym (whole) ∙ subst (λ (k : ℕ). any k (overreached (alone a.flows.now a.n) a.n) ≡ false) e c.loop-f.invariant.1);
-    }
+returns c = record {
+  is = any_from_yields_List (overreached_by c.args.reaches.now) _ _ c.any.result c.any.ensures.ran (YieldsList-from_slice c.args.flows.now cc) (λ x b q k. search (rules, tests))
+      ∙ not_nested_is c.args.flows.now c.args.reaches.now c.requires.0 c.requires.1;
+}

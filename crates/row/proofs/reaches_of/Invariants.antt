@@ -1,13 +1,9 @@
--- `row::reaches_of` meets its contract. The invariant (`Reached`): at each server stands the furthest of the first f flows. The measure is how many
--- are left.
+-- `row::reaches_of` meets its contract. The invariant (`Reached`): at each server stands the furthest of the flows before this one.
 -- Assumes nothing.
-use Prim.Native.Nat.{◌≤◌, ◌-◌}
-use Rattle.tandem.specs.Lent.{alone}
+use mathlib.Core.List.{[]}
+use Rattle.tandem.specs.Lent.{row_in}
 use Rattle.row.specs.Parts.{Reached}
 use Rattle.row.proofs.reaches_of.Given as goal
 
-abbrev pub invariant-loop-f : goal.invariant-loop-f
-invariant-loop-f l = (l.f ≤ l.n) × Reached (alone l.flows l.n) l.f l.reaches
-
-abbrev pub decreases-loop-f : goal.decreases-loop-f
-decreases-loop-f l = l.n - l.f
+abbrev pub invariant-loop-flow : goal.invariant-loop-flow
+invariant-loop-flow l = Reached (row_in [] l.flows) l.flow-index l.reaches

@@ -2,117 +2,70 @@
 -- Assumes nothing.
 use mathlib.Core.Path.{◌≡◌, sym, ap, ◌∙◌, subst}
 use mathlib.Core.List.{List}
-use Prim.Native.Nat.{ℕ, ◌+◌, ◌*◌, ◌≤◌}
+use Prim.Native.Nat.{◌+◌}
 use native.Mathlib.Omega.{arith}
-use lib.ListN.{length, get_or}
+use lib.ListN.{get_or}
+use Rattle.std.specs.Prelude.{Err, true, false}
+use Rattle.std.proofs.lemmas.Result.{err_from_is_err_and}
 use Rattle.sheet.specs.Valid.{server_count, mode, grid}
-use Rattle.tandem.specs.Tandem.{Tandem, size}
-use Rattle.tandem.specs.Crowded.{lowest_crowded}
+use Rattle.tandem.specs.declared.Flow.{Flow}
+use Rattle.tandem.specs.Tandem.{Tandem}
 use Rattle.tandem.specs.OfSheet.{tandem_of}
-use Rattle.tandem.specs.Lent.{tandem_in, Laid, Lent}
-use Rattle.tandem.proofs.LentLaws.{laid_most, sheet_spread, sheet_room, sheet_laid, sheet_lent}
+use Rattle.tandem.specs.Lent.{Listed, Handed}
+use Rattle.tandem.proofs.OfSheetLaws.{row_flows}
+use Rattle.tandem.proofs.LentLaws.{listed_most, sheet_listed, sheet_handed}
+use Rattle.tandem.proofs.CrowdedLaws.{lowest_of_server, lowest_of_none}
 use Rattle.row.specs.Checks.{not_nested}
 use Rattle.row.specs.RowFor.{formed_for}
 use Rattle.row.specs.OfSheet.{grid_of}
-use Rattle.row.proofs.OfSheetLaws.{formed_sheet, grid_range}
-use Rattle.row.proofs.Answers.{nested_alone, formed_crossing, formed_crowded}
+use Rattle.row.specs.Held.{held}
+use Rattle.row.proofs.OfSheetLaws.{formed_sheet}
+use Rattle.row.proofs.Answers.{fronts_held, formed_crossing, formed_crowded}
+use Rattle.row.proofs.Filling.{take_front}
 use Rattle.row.proofs.row_of.Goals as goal
+use Rattle.row.proofs.row_of.Goals.{In_ok-nested}
 
-pub reaches_of-reaches-requires : goal.reaches_of-reaches-requires
-reaches_of-reaches-requires c =
-    let xs : List ℕ = c.args.numbers.now in
-    let servers : List ℕ = c.list_servers.new.servers in
-    let flows : List ℕ = c.list_flows.new.flows in
-    let count : ℕ = c.flow_total-n.result in
-    let count_is : count ≡ length (tandem_of xs).flows = c.flow_total-n.ensures.is in
-    let room : (2 * server_count xs ≤ length servers) × (4 * length (tandem_of xs).flows ≤ length flows) = sheet_room xs servers flows _ _ c.list_servers.ensures.holds c.list_flows.ensures.holds in
-    let same : tandem_in servers (server_count xs) flows (length (tandem_of xs).flows) ≡ tandem_of xs = sheet_spread xs servers flows _ _ c.list_servers.ensures.holds c.list_flows.ensures.holds in
-    let laid : Laid 16 flows count = subst (λ (m : ℕ). Laid 16 flows m) (sym count_is) (laid_most _ _ _ (sheet_laid xs servers flows c.requires same room.1)) in
-    laid
+pub list_flows-requires : goal.list_flows-requires
+list_flows-requires c = omega (arith, row_flows c.args.sheet.numbers.now, c.args.sheet.valid.flows.most)
 
-pub is_not_nested-requires : goal.is_not_nested-requires
-is_not_nested-requires c =
-    let xs : List ℕ = c.args.numbers.now in
-    let servers : List ℕ = c.list_servers.new.servers in
-    let flows : List ℕ = c.list_flows.new.flows in
-    let count : ℕ = c.flow_total-n.result in
-    let count_is : count ≡ length (tandem_of xs).flows = c.flow_total-n.ensures.is in
-    let room : (2 * server_count xs ≤ length servers) × (4 * length (tandem_of xs).flows ≤ length flows) = sheet_room xs servers flows _ _ c.list_servers.ensures.holds c.list_flows.ensures.holds in
-    let same : tandem_in servers (server_count xs) flows (length (tandem_of xs).flows) ≡ tandem_of xs = sheet_spread xs servers flows _ _ c.list_servers.ensures.holds c.list_flows.ensures.holds in
-    let laid : Laid 16 flows count = subst (λ (m : ℕ). Laid 16 flows m) (sym count_is) (laid_most _ _ _ (sheet_laid xs servers flows c.requires same room.1)) in
-    (laid, c.reaches_of-reaches.ensures.reaches)
+pub of-requires : goal.of-requires
+of-requires c =
+    let xs = c.args.sheet.numbers.now in
+    subst (λ (l : List Flow). Listed 16 l) (sym (take_front _ _ _ _ c.list_flows.ensures.holds c.flow_total.ensures.is))
+    (listed_most _ _ (sheet_listed xs c.args.sheet.valid))
 
-pub returns-then-is_not_nested : goal.returns-then-is_not_nested
-returns-then-is_not_nested c =
-    let xs : List ℕ = c.args.numbers.now in
-    let servers : List ℕ = c.list_servers.new.servers in
-    let flows : List ℕ = c.list_flows.new.flows in
-    let long : ℕ = c.server_count-size.result in
-    let count : ℕ = c.flow_total-n.result in
-    let long-is : long ≡ server_count xs = c.server_count-size.ensures.is in
-    let count_is : count ≡ length (tandem_of xs).flows = c.flow_total-n.ensures.is in
-    let same : tandem_in servers (server_count xs) flows (length (tandem_of xs).flows) ≡ tandem_of xs = sheet_spread xs servers flows _ _ c.list_servers.ensures.holds c.list_flows.ensures.holds in
-    let held : tandem_in servers long flows count ≡ tandem_of xs = ap (λ (n : ℕ). tandem_in servers n flows count) long-is ∙ ap (λ (m : ℕ). tandem_in servers (server_count xs) flows m) count_is ∙ same in
-    let nested_is : not_nested (tandem_of (xs)) ≡ c.is_not_nested.result = ap not_nested (sym (held)) ∙ nested_alone (servers) (long) (flows) (count) ∙ sym c.is_not_nested.ensures.is in
-    record {
-      is = let x = xs in
-          c.refused.ensures ∙ sym (formed_sheet x ∙ formed_crossing (tandem_of x) (mode x) (grid_of (server_count x) (grid x)) (nested_is ∙ c.if-is_not_nested.true));
-    }
+pub returns-in_err-nested : goal.returns-in_err-nested
+returns-in_err-nested c =
+    let xs = c.args.sheet.numbers.now in
+    let p = err_from_is_err_and c.from_residual.result c.from_residual.ensures.1 in
+    let crossed : not_nested (tandem_of xs) ≡ true = ap not_nested (sym (fronts_held xs _ _ _ _ _ _ c.list_servers.ensures.holds c.list_flows.ensures.holds c.server_count-size.ensures.is c.flow_total.ensures.is)) ∙ c.in_err-nested.ensures.1 in
+    record { is = p.1 ∙ ap Err (p.2 ∙ c.in_err-nested.ensures.0) ∙ formed_crossing (tandem_of xs) (mode xs) (grid_of (server_count xs) (grid xs)) crossed ∙ sym (formed_sheet xs) }
 
-pub returns-then-j-gt0 : goal.returns-then-j-gt0
-returns-then-j-gt0 c =
-    let xs : List ℕ = c.args.numbers.now in
-    let servers : List ℕ = c.list_servers.new.servers in
-    let flows : List ℕ = c.list_flows.new.flows in
-    let long : ℕ = c.server_count-size.result in
-    let count : ℕ = c.flow_total-n.result in
-    let long-is : long ≡ server_count xs = c.server_count-size.ensures.is in
-    let count_is : count ≡ length (tandem_of xs).flows = c.flow_total-n.ensures.is in
-    let same : tandem_in servers (server_count xs) flows (length (tandem_of xs).flows) ≡ tandem_of xs = sheet_spread xs servers flows _ _ c.list_servers.ensures.holds c.list_flows.ensures.holds in
-    let held : tandem_in servers long flows count ≡ tandem_of xs = ap (λ (n : ℕ). tandem_in servers n flows count) long-is ∙ ap (λ (m : ℕ). tandem_in servers (server_count xs) flows m) count_is ∙ same in
-    let nested_is : not_nested (tandem_of (xs)) ≡ c.is_not_nested.result = ap not_nested (sym (held)) ∙ nested_alone (servers) (long) (flows) (count) ∙ sym c.is_not_nested.ensures.is in
-    record {
-      is = let x = xs in
-          c.refused-then-j-gt0.ensures
-          ∙ sym (formed_sheet x ∙ formed_crowded (tandem_of x) (mode x) (grid_of (server_count x) (grid x)) (nested_is ∙ c.if-is_not_nested.false) _ c.lowest_crowded-j.ensures.is c.if-j-gt0.true);
-    }
+-- the lists hold the sheet's servers and flows
+nested_held : (c : In_ok-nested) → held c.in_ok-nested.nested ≡ tandem_of c.args.sheet.numbers.now
+nested_held c =
+    c.in_ok-nested.ensures
+    ∙ fronts_held c.args.sheet.numbers.now _ _ _ _ _ _ c.list_servers.ensures.holds c.list_flows.ensures.holds c.server_count-size.ensures.is c.flow_total.ensures.is
 
-pub with_groups-requires : goal.with_groups-requires
-with_groups-requires c =
-    let xs : List ℕ = c.args.numbers.now in
-    let servers : List ℕ = c.list_servers.new.servers in
-    let flows : List ℕ = c.list_flows.new.flows in
-    let long : ℕ = c.server_count-size.result in
-    let count : ℕ = c.flow_total-n.result in
-    let long-is : long ≡ server_count xs = c.server_count-size.ensures.is in
-    let count_is : count ≡ length (tandem_of xs).flows = c.flow_total-n.ensures.is in
-    let room : (2 * server_count xs ≤ length servers) × (4 * length (tandem_of xs).flows ≤ length flows) = sheet_room xs servers flows _ _ c.list_servers.ensures.holds c.list_flows.ensures.holds in
-    let same : tandem_in servers (server_count xs) flows (length (tandem_of xs).flows) ≡ tandem_of xs = sheet_spread xs servers flows _ _ c.list_servers.ensures.holds c.list_flows.ensures.holds in
-    let lent : lowest_crowded (tandem_of xs) 1 (size (tandem_of xs)) ≡ 0 → Lent servers long flows count = λ z. subst (λ (n : ℕ). Lent servers n flows count) (sym long-is) (subst (λ (m : ℕ). Lent servers (server_count xs) flows m) (sym count_is) (sheet_lent xs servers flows c.requires same room.0 room.1 z)) in
-    let grid-is : c.grid_of-grid.result ≡ grid_of (server_count (xs)) (grid (xs)) = c.grid_of-grid.ensures ∙ ap (λ (n : ℕ). grid_of n (get_or (xs) (c.watched_place-at.result + 3) 0)) (long-is) ∙ ap (λ (a : ℕ). grid_of (server_count (xs)) (get_or (xs) (a + 3) 0)) c.watched_place-at.ensures.is in
-    let r = grid_range (xs) c.requires in
-    let z : lowest_crowded (tandem_of (xs)) 1 (size (tandem_of (xs))) ≡ 0 = omega (arith, c.lowest_crowded-j.ensures.is, c.if-j-gt0.false) in (
-      record { lent = lent z; reached = c.reaches_of-reaches.ensures.reaches; nested = sym c.is_not_nested.ensures.is ∙ c.if-is_not_nested.false },
-      omega (arith, grid-is, r.0),
-      omega (arith, grid-is, r.1),
-    )
+pub returns-in-Some : goal.returns-in-Some
+returns-in-Some c =
+    let xs = c.args.sheet.numbers.now in
+    let row = tandem_of xs in
+    let nested : not_nested row ≡ false = ap not_nested (sym (nested_held (goal.at.returns-in-Some c).In_ok-nested)) ∙ c.in_ok-nested.nested.nested in
+    let lowest = lowest_of_server row c.in-Some.j (sym c.in-Some.ensures.is) in
+    record { is = formed_crowded row (mode xs) (grid_of (server_count xs) (grid xs)) nested c.in-Some.j lowest.1 lowest.0 ∙ sym (formed_sheet xs) }
+
+pub form-requires : goal.form-requires
+form-requires c =
+    let xs = c.args.sheet.numbers.now in
+    subst (λ (row : Tandem). Handed row) (sym (nested_held (goal.at.form-requires c).In_ok-nested))
+    (sheet_handed xs c.args.sheet.valid (lowest_of_none (tandem_of xs) (sym c.in_default.ensures.is)))
 
 pub returns : goal.returns
 returns c =
-    let xs : List ℕ = c.args.numbers.now in
-    let servers : List ℕ = c.list_servers.new.servers in
-    let flows : List ℕ = c.list_flows.new.flows in
-    let long : ℕ = c.server_count-size.result in
-    let count : ℕ = c.flow_total-n.result in
-    let long-is : long ≡ server_count xs = c.server_count-size.ensures.is in
-    let count_is : count ≡ length (tandem_of xs).flows = c.flow_total-n.ensures.is in
-    let same : tandem_in servers (server_count xs) flows (length (tandem_of xs).flows) ≡ tandem_of xs = sheet_spread xs servers flows _ _ c.list_servers.ensures.holds c.list_flows.ensures.holds in
-    let held : tandem_in servers long flows count ≡ tandem_of xs = ap (λ (n : ℕ). tandem_in servers n flows count) long-is ∙ ap (λ (m : ℕ). tandem_in servers (server_count xs) flows m) count_is ∙ same in
-    let grid-is : c.grid_of-grid.result ≡ grid_of (server_count (xs)) (grid (xs)) = c.grid_of-grid.ensures ∙ ap (λ (n : ℕ). grid_of n (get_or (xs) (c.watched_place-at.result + 3) 0)) (long-is) ∙ ap (λ (a : ℕ). grid_of (server_count (xs)) (get_or (xs) (a + 3) 0)) c.watched_place-at.ensures.is in
+    let xs = c.args.sheet.numbers.now in
     record {
-      is = c.with_groups.ensures
-          ∙ ap (λ (row : Tandem). formed_for row (get_or (xs) (c.watched_place-at.result + 2) 0) c.grid_of-grid.result) (held)
-          ∙ ap (λ (z : ℕ). formed_for (tandem_of (xs)) (get_or (xs) (c.watched_place-at.result + 2) 0) z) (grid-is)
-          ∙ ap (λ (a : ℕ). formed_for (tandem_of (xs)) (get_or (xs) (a + 2) 0) (grid_of (server_count (xs)) (grid (xs)))) c.watched_place-at.ensures.is
-          ∙ sym (formed_sheet (xs));
+      is = c.form.ensures
+          ∙ ap (λ (row : Tandem). formed_for row (get_or xs (c.watched_place-at.result + 2) 0) c.grid_of-grid.result) (nested_held (goal.at.returns c).In_ok-nested)
+          ∙ rw (c.grid_of-grid.ensures, c.watched_place-at.ensures.is, c.server_count-size.ensures.is) (sym (formed_sheet xs));
     }
