@@ -6,13 +6,15 @@ use mathlib.Core.Path.{◌≡◌, refl, sym, ap, ◌∙◌, subst}
 use mathlib.Core.Bool.{Bool, true, false, ◌||◌, not, false≢true}
 use mathlib.Core.Logic.{◌⊎◌, inl, inr}
 use mathlib.Core.List.{List, map}
-use Prim.Native.Nat.{ℕ, zero, suc, ◌+◌, ◌-◌, ◌*◌, ◌/◌, ◌^◌, ◌≤◌, ◌<◌, min, max}
+use Prim.Native.Nat.{ℕ, zero, suc, ◌+◌, ◌-◌, ◌*◌, ◌^◌, ◌≤◌, ◌<◌, min, max}
 use native.Mathlib.Nat.{mul-le-mul_right, mul-le-mul_left, mul_assoc, mul_comm, pow-zero, pow-suc}
 use native.Mathlib.Omega.{arith}
 use borrow.Author.Tests.{leb-true, leb-false}
 use lib.Dec.{leb}
-use lib.ListN.{length, take, get_or, length-take, length-drop}
-use lib.Seq.{slice, get_or-take, length-take-le, take-length}
+use lib.ListN.{length, take, get_or, length-take, length-drop, length-map}
+use Rattle.std.proofs.Common.{get_or-drop}
+use Rattle.std.proofs.lemmas.List.{get_or-map}
+use lib.Seq.{slice, take-length}
 use Rattle.tandem.specs.Tandem.{no_flow}
 use Rattle.curves.specs.declared.Stage.{Stage}
 use Rattle.curves.specs.Curve.{Shape, Rates, line, delay}
@@ -24,14 +26,13 @@ use Rattle.curves.proofs.PartLaws.{changed_inside, changed_outside, lag_le}
 use Rattle.tandem.specs.declared.Flow.{Flow}
 use Rattle.tandem.specs.Sums.{weigh}
 use Rattle.tandem.proofs.TestLaws.{or_cases}
-use Rattle.tandem.proofs.OfSheetLaws.{length_listed, listed_at}
 use Rattle.ground.specs.Each.{Each}
 use Rattle.ground.proofs.EachLaws.{each_at, each_map}
 use Rattle.tree.specs.Ordered.{Placed}
 use Rattle.grid.specs.declared.Steps.{Steps}
-use Rattle.grid.specs.Steps.{step_at, digits_of, values_of}
-use Rattle.grid.proofs.StepsLaws.{steps_le, steps_few, digits_held, values_held, digits_full, values_full}
-use Rattle.tandem.specs.Lent.{lent_flow}
+use Rattle.grid.specs.declared.Step.{Step}
+use Rattle.grid.specs.Steps.{step_at, no_step, digits_of, values_of}
+use Rattle.grid.proofs.StepsLaws.{steps_le, steps_few, digits_held, values_held}
 use Rattle.keys.specs.Numbers.{first_digits, Growing}
 use Rattle.keys.proofs.NumberLaws.{first_digits_stand, first_digits_grow}
 use Rattle.keys.specs.Keys.{least_of}
@@ -40,7 +41,7 @@ use Rattle.keys.specs.Left.{lag_of, left_by, passes}
 use Rattle.keys.proofs.ServerLaws.{passes_cases, left_offset, left_by_length}
 use Rattle.keys.specs.State.{State, state, chosen, Moving, Small, want_of, rest_of, gives_beside, gives_under}
 use Rattle.keys.proofs.StateLaws.{keys_over, moving_next, step_rises, not_true}
-use Rattle.keys.proofs.TurnLaws.{Turned, turned_none, passed_late, passed_lacking, turned_more, turned_past, turned_all, value_at_lem}
+use Rattle.keys.proofs.TurnLaws.{Turned, passed_late, passed_lacking, turned_more, turned_past, turned_all, value_at_lem}
 use Rattle.keys.proofs.UseLaws.{moving_rates, path_live, path_leaves, small_next, small_line, want_next, gives_same}
 use Rattle.climb.specs.declared.Branch.{Branch}
 use Rattle.climb.specs.Branch.{state_of, watched_in, groups_in, want_in}
@@ -64,6 +65,10 @@ slice_le a b l h = omega (arith, length-drop a (take b l), length-take b l)
 
 -- the steps that the code holds
 
+-- the steps that a turn of the loop takes one of
+abbrev pub steps_held : Steps → List Step
+steps_held steps = take steps.count steps.steps
+
 module _ (steps : Steps) (h : Stepped steps) where
   abbrev step : ℕ → ℕ
   step = step_at steps.start steps.grid
@@ -71,20 +76,11 @@ module _ (steps : Steps) (h : Stepped steps) where
   pub steps_short : steps.count ≤ 9
   steps_short = subst (λ (x : Steps). x.count ≤ 9) (sym h.are) (steps_few steps.start steps.grid h.dense)
 
-  pub digits_long : length steps.digits ≡ 9
-  digits_long = subst (λ (x : Steps). length x.digits ≡ 9) (sym h.are) (digits_full steps.start steps.grid h.dense)
-
-  pub values_long : length steps.values ≡ 9
-  values_long = subst (λ (x : Steps). length x.values ≡ 9) (sym h.are) (values_full steps.start steps.grid h.dense)
-
   digits_are : digits_of steps ≡ first_digits step steps.grid
   digits_are = ap digits_of h.are ∙ digits_held steps.start steps.grid
 
   values_are : values_of steps ≡ map step (digits_of steps)
   values_are = ap values_of h.are ∙ values_held steps.start steps.grid ∙ ap (map step) (sym digits_are)
-
-  pub digits_count : length (digits_of steps) ≡ steps.count
-  digits_count = length-take-le steps.count steps.digits (omega (arith, steps_short, digits_long))
 
   digits_grow : Growing (digits_of steps)
   digits_grow = subst Growing (sym digits_are) (first_digits_grow step steps.grid)
@@ -92,62 +88,69 @@ module _ (steps : Steps) (h : Stepped steps) where
   digits_low : Each (λ d. d < steps.grid) (digits_of steps)
   digits_low = subst (Each (λ d. d < steps.grid)) (sym digits_are) (first_digits_stand step steps.grid).digits
 
-  module _ (i : ℕ) (p : i < steps.count) where
-    digit_at : get_or (digits_of steps) i 0 ≡ get_or steps.digits i 0
-    digit_at = get_or-take steps.count steps.digits i 0 p
+  digits_count : length (digits_of steps) ≡ length (steps_held steps)
+  digits_count = length-map (steps_held steps) (λ (x : Step). x.digit)
 
-    value_of : get_or steps.values i 0 ≡ step (get_or steps.digits i 0)
+  module _ (i : ℕ) (p : i < length (steps_held steps)) where
+    abbrev its : Step
+    its = get_or (steps_held steps) i no_step
+
+    digit_at : get_or (digits_of steps) i 0 ≡ its.digit
+    digit_at = get_or-map (λ (x : Step). x.digit) (steps_held steps) i no_step 0 p
+
+    value_of : its.value ≡ step its.digit
     value_of =
-        sym (get_or-take steps.count steps.values i 0 p) ∙ ap (λ (l : List ℕ). get_or l i 0) values_are
+        sym (get_or-map (λ (x : Step). x.value) (steps_held steps) i no_step 0 p) ∙ ap (λ (l : List ℕ). get_or l i 0) values_are
         ∙ value_at_lem step (digits_of steps) i (omega (arith, digits_count)) ∙ ap step digit_at
 
-    pub digit_low : get_or steps.digits i 0 < steps.grid
+    pub digit_low : its.digit < steps.grid
     digit_low = subst (λ (d : ℕ). d < steps.grid) digit_at (each_at (λ d. d < steps.grid) (digits_of steps) 0 digits_low i (omega (arith, digits_count)))
 
-    pub step_low : get_or steps.values i 0 ≤ steps.start
-    step_low = omega (arith, value_of, steps_le steps.start steps.grid (get_or steps.digits i 0) digit_low)
+    pub step_low : its.value ≤ steps.start
+    step_low = omega (arith, value_of, steps_le steps.start steps.grid its.digit digit_low)
 
 -- a call
 
-pub number_small : {flows : List ℕ} {steps : Steps} {k : ℕ} {s : Branch} {wants : List ℕ} {best : ℕ} → Ready flows steps k s wants best → s.number < 65536
+pub number_small : {flows : List Flow} {steps : Steps} {k : ℕ} {s : Branch} {wants : List ℕ} {best : ℕ} → Ready flows steps k s wants best → s.number < 65536
 number_small {steps = steps} {k = k} {s = s} r = omega (arith, r.numbered, weight_by s.weight steps.grid k r.stepped.coarse r.weighed)
 
 -- the watched flow: every group is chosen
-module _ (flows : List ℕ) (steps : Steps) (k : ℕ) (s : Branch) (wants : List ℕ) (best : ℕ) (r : Ready flows steps k s wants best)
-    (last : k ≡ 0) (w : Flow) (is : w ≡ lent_flow flows k)
-  where
-    watched_is : w ≡ watched_in flows
-    watched_is = is ∙ ap (lent_flow flows) last
+module _ {flows : List Flow} {steps : Steps} {k : ℕ} {s : Branch} {wants : List ℕ} {best : ℕ} (r : Ready flows steps k s wants best) (last : k ≡ 0) where
+  abbrev watched : Flow
+  watched = get_or flows k no_flow
 
-    rates_end : Rates 1 (shape_of s.curve).stages
-    rates_end = moving_rates (groups_in flows) k (state_of s) r.moving
+  watched_is : watched ≡ watched_in flows
+  watched_is = ap (λ (n : ℕ). get_or flows n no_flow) last
 
-    pub light_end : w.burst + w.rate < 2 ^ 40
-    light_end = subst (λ (f : Flow). f.burst + f.rate < 2 ^ 40) (sym watched_is) r.watched
+  rates_end : Rates 1 (shape_of s.curve).stages
+  rates_end = moving_rates (groups_in flows) k (state_of s) r.moving
 
-    pub range_end : InRange s.curve
-    range_end =
-        let c = shape_of s.curve in
-        let l : Each Live (slice 0 (length c.stages) c.stages) = path_live c 0 (length c.stages) rates_end r.small (omega (arith, r.soon)) in
-        record { few = r.size; near = omega (arith, r.soon); live = subst (Each Live) (take-length c.stages) l }
+  pub light_end : watched.burst + watched.rate < 2 ^ 40
+  light_end = subst (λ (f : Flow). f.burst + f.rate < 2 ^ 40) (sym watched_is) r.watched
 
-    pub delay_end : delay (shape_of s.curve) w.burst w.rate < 2 ^ 42
-    delay_end = omega (arith, delay_le (shape_of s.curve) w.burst w.rate rates_end, r.soon, light_end)
+  pub range_end : InRange s.curve
+  range_end =
+      let c = shape_of s.curve in
+      let l : Each Live (slice 0 (length c.stages) c.stages) = path_live c 0 (length c.stages) rates_end r.small (omega (arith, r.soon)) in
+      record { few = r.size; near = omega (arith, r.soon); live = subst (Each Live) (take-length c.stages) l }
 
-    pub leaf_is : (x : ℕ) → x ≡ min best (delay (shape_of s.curve) w.burst w.rate * 65536 + s.number) → x ≡ least_key flows steps k s best
-    unfolding least_key
-    leaf_is x e =
-        e ∙ ap (λ (f : Flow). min best (delay (shape_of s.curve) f.burst f.rate * 65536 + s.number)) watched_is
-        ∙ ap (λ (n : ℕ). least_key flows steps n s best) (sym last)
+  pub delay_end : delay (shape_of s.curve) watched.burst watched.rate < 2 ^ 42
+  delay_end = omega (arith, delay_le (shape_of s.curve) watched.burst watched.rate rates_end, r.soon, light_end)
+
+  pub leaf_is : (key : ℕ) → key ≡ delay (shape_of s.curve) watched.burst watched.rate * 65536 + s.number → min best key ≡ least_key flows steps k s best
+  unfolding least_key
+  leaf_is key e =
+      ap (min best) e ∙ ap (λ (f : Flow). min best (delay (shape_of s.curve) f.burst f.rate * 65536 + s.number)) watched_is
+      ∙ ap (λ (n : ℕ). least_key flows steps n s best) (sym last)
 
 -- the loop of a call with k groups still to choose: after i steps b is the least key so far
-pub record Turning (flows : List ℕ) (steps : Steps) (k : ℕ) (s : Branch) (best b i : ℕ) : Type 0 where
+pub record Turning (flows : List Flow) (steps : Steps) (k : ℕ) (s : Branch) (best b i : ℕ) : Type 0 where
   pub turned : Turned 65536 (watched_in flows) (groups_in flows) (step_at steps.start steps.grid) steps.grid (digits_of steps) (k - 1) (state_of s) best b i
   pub down : b ≤ best
 
--- a group is still to be chosen: the next is `group`
+-- a group is still to be chosen
 pub record Call : Type 0 where
-  pub flows : List ℕ
+  pub flows : List Flow
   pub steps : Steps
   pub k : ℕ
   pub s : Branch
@@ -155,8 +158,13 @@ pub record Call : Type 0 where
   pub best : ℕ
   pub ready : Ready flows steps k s wants best
   pub some : k ≡ suc (k - 1)
-  pub group : Flow
-  pub is : group ≡ lent_flow flows k
+
+abbrev pub call : {flows : List Flow} {steps : Steps} {k : ℕ} {s : Branch} {wants : List ℕ} {best : ℕ} → Ready flows steps k s wants best → (k ≡ 0 → ⊥) → Call
+call r h = record { flows = _; steps = _; k = _; s = _; wants = _; best = _; ready = r; some = omega (arith, h) }
+
+-- the next of them
+abbrev pub group : Call → Flow
+group c = get_or c.flows c.k no_flow
 
 module _ (c : Call) where
   abbrev r : Ready c.flows c.steps c.k c.s c.wants c.best
@@ -169,7 +177,7 @@ module _ (c : Call) where
   w = watched_in c.flows
 
   abbrev f : Flow
-  f = c.group
+  f = group c
 
   -- the groups before it
   abbrev k : ℕ
@@ -198,12 +206,10 @@ module _ (c : Call) where
   least_below = least_key c.flows c.steps c.k c.s c.best
 
   there : k < length gs
-  there = omega (arith, length_listed (length c.flows / 4 - 1) (λ i. lent_flow c.flows (suc i)), r.reached, c.some)
+  there = omega (arith, length-drop 1 c.flows, r.reached, c.some)
 
   group_is : get_or gs k no_flow ≡ f
-  group_is =
-      listed_at (length c.flows / 4 - 1) (λ i. lent_flow c.flows (suc i)) k no_flow (omega (arith, r.reached, c.some))
-      ∙ ap (lent_flow c.flows) (sym c.some) ∙ sym c.is
+  group_is = get_or-drop 1 c.flows k no_flow ∙ ap (λ (n : ℕ). get_or c.flows n no_flow) (omega (arith, c.some))
 
   moving : Moving gs (suc k) (state_of c.s)
   moving = subst (λ (x : ℕ). Moving gs x (state_of c.s)) c.some r.moving
@@ -254,14 +260,11 @@ module _ (c : Call) where
           let m = changed_outside (λ (x : ℕ). x - f.burst) from to c.wants j 0 x.1 in
           omega (arith, e, y, m)
 
-  pub begin_turning : Turning c.flows c.steps c.k c.s c.best c.best 0
-  begin_turning = record { turned = turned_none 65536 w gs (step_at c.steps.start g) g (digits_of c.steps) k (state_of c.s) c.best; down = omega arith }
-
   all_below : least_of c.best (keys_over 65536 w gs (step_at c.steps.start g) g (digits_of c.steps) (suc k) (state_of c.s)) ≡ least_below
   unfolding least_key
   all_below = ap (λ (x : ℕ). least_key c.flows c.steps x c.s c.best) (sym c.some)
 
-  pub end_turning : (b i : ℕ) → Turning c.flows c.steps c.k c.s c.best b i → c.steps.count ≤ i → b ≡ least_below
+  pub end_turning : (b i : ℕ) → Turning c.flows c.steps c.k c.s c.best b i → length (steps_held c.steps) ≤ i → b ≡ least_below
   end_turning b i t h =
       turned_all 65536 w gs (step_at c.steps.start g) g (digits_of c.steps) k (state_of c.s) c.best b i t.turned
       (omega (arith, digits_count c.steps r.stepped)) ∙ all_below
@@ -278,11 +281,15 @@ module _ (c : Call) where
 pub record Turn : Type 0 where
   pub call : Call
   pub least : ℕ
-  pub lag : least ≡ lag_in (shape_of call.s.curve) (call.group.first - 1) call.group.last call.group.burst
+  pub lag : least ≡ lag_in (shape_of call.s.curve) ((group call).first - 1) (group call).last (group call).burst
   pub b : ℕ
   pub i : ℕ
   pub turning : Turning call.flows call.steps call.k call.s call.best b i
-  pub inside : i < call.steps.count
+  pub inside : i < length (steps_held call.steps)
+
+abbrev pub turn_of : (n : Call) {least b i : ℕ} → least ≡ lag_in (shape_of n.s.curve) ((group n).first - 1) (group n).last (group n).burst
+    → Turning n.flows n.steps n.k n.s n.best b i → i < length (steps_held n.steps) → Turn
+turn_of n l h p = record { call = n; least = _; lag = l; b = _; i = _; turning = h; inside = p }
 
 module _ (t : Turn) where
   abbrev c : Call
@@ -291,11 +298,14 @@ module _ (t : Turn) where
   abbrev steps : Steps
   steps = c.steps
 
+  abbrev its_step : Step
+  its_step = get_or (steps_held steps) t.i no_step
+
   abbrev d : ℕ
-  d = get_or steps.digits t.i 0
+  d = its_step.digit
 
   abbrev pub gap : ℕ
-  gap = t.least + get_or steps.values t.i 0
+  gap = t.least + its_step.value
 
   -- the slots and the number once the group is chosen
   abbrev pub slots : ℕ
@@ -382,8 +392,9 @@ module _ (t : Turn) where
       )
 
   -- out: the slots with this step have reached the best, or some server beside its path can not give what is wanted of it; and so with all later ones
-  pub turn_past : (leb t.b (slots * 65536 + num) || not (gives_beside (want_in c.wants) left_slots (f c) (shape c).stages)) ≡ true → t.b ≡ least_below c
-  turn_past e = go (or_cases _ _ e)
+  pub turn_past : (p : Bool) → p ≡ (leb t.b (slots * 65536 + num) || not (gives_beside (want_in c.wants) left_slots (f c) (shape c).stages)) → p ≡ true
+      → t.b ≡ least_below c
+  turn_past p e h = go (or_cases _ _ (sym e ∙ h))
     where
       go : (leb t.b (slots * 65536 + num) ≡ true) ⊎ (not (gives_beside (want_in c.wants) left_slots (f c) (shape c).stages) ≡ true) → t.b ≡ least_below c
       go (inl x) =
@@ -438,14 +449,20 @@ module _ (t : Turn) where
 pub record On : Type 0 where
   pub turn : Turn
   pub early : (leb turn.b (slots turn * 65536 + num turn)
-      || not (gives_beside (want_in turn.call.wants) (left_slots turn) turn.call.group (shape_of turn.call.s.curve).stages)) ≡ false
+      || not (gives_beside (want_in turn.call.wants) (left_slots turn) (group turn.call) (shape_of turn.call.s.curve).stages)) ≡ false
   pub next : Branch
-  pub holds : Holds next.curve (left_by (shape_of turn.call.s.curve) turn.call.group (gap turn))
+  pub holds : Holds next.curve (left_by (shape_of turn.call.s.curve) (group turn.call) (gap turn))
   pub number : next.number ≡ num turn
   pub weight : next.weight ≡ turn.call.s.weight * turn.call.steps.grid
   pub fewer : List ℕ
-  pub lowered : fewer ≡ changed (λ (x : ℕ). x - turn.call.group.burst) (turn.call.group.first - 1) turn.call.group.last turn.call.wants
+  pub lowered : fewer ≡ changed (λ (x : ℕ). x - (group turn.call).burst) ((group turn.call).first - 1) (group turn.call).last turn.call.wants
   pub full : length turn.call.wants ≡ 16
+
+abbrev pub goes_on : (t : Turn) {p : Bool} {next : Branch} {fewer : List ℕ}
+    → p ≡ (leb t.b (slots t * 65536 + num t) || not (gives_beside (want_in t.call.wants) (left_slots t) (group t.call) (shape_of t.call.s.curve).stages)) → p ≡ false
+    → Holds next.curve (left_by (shape_of t.call.s.curve) (group t.call) (gap t)) × (next.number ≡ num t) × (next.weight ≡ t.call.s.weight * t.call.steps.grid)
+    → fewer ≡ changed (λ (x : ℕ). x - (group t.call).burst) ((group t.call).first - 1) (group t.call).last t.call.wants → length t.call.wants ≡ 16 → On
+goes_on t e h n l f = record { turn = t; early = sym e ∙ h; next = _; holds = n.0; number = n.1; weight = n.2; fewer = _; lowered = l; full = f }
 
 module _ (o : On) where
   abbrev t : Turn
@@ -507,10 +524,11 @@ module _ (o : On) where
   next_wanted j p = ap (λ (l : List ℕ). want_in l j) o.lowered ∙ fewer_wanted q o.full j (omega (arith, p, count_is))
 
   -- on: the branch is passed over, as some server under the path of the group can not give what is wanted of it
-  pub turn_short : gives_under (want_in o.fewer) rest (f q) (shape_of o.next.curve).stages ≡ false
+  pub turn_short : (p : Bool) → p ≡ gives_under (want_in o.fewer) rest (f q) (shape_of o.next.curve).stages → p ≡ false
       → Turning q.flows q.steps q.k q.s q.best t.b (t.i + 1)
   unfolding gives_under
-  turn_short e =
+  turn_short p is h =
+      let e : gives_under (want_in o.fewer) rest (f q) (shape_of o.next.curve).stages ≡ false = sym is ∙ h in
       let z : ℕ = (w q).burst + (w q).rate in
       let l = (shape_of o.next.curve).stages in
       let n : length l ≡ o.next.curve.count = ap (λ (x : Shape). length x.stages) o.holds.shape ∙ sym o.holds.count in
@@ -543,7 +561,6 @@ module _ (o : On) where
       record {
         stepped = q.ready.stepped;
         reached = omega (arith, q.ready.reached);
-        few = q.ready.few;
         size = omega (arith, count_is, q.ready.size);
         full = ap (λ (x : Shape). length x.stages) o.holds.shape ∙ sym o.holds.count;
         placed = subst (λ (n : ℕ). Each (Placed n) (gs q)) (sym count_is) q.ready.placed;

@@ -1,53 +1,60 @@
--- Whether stages give what is wanted of them, one server a turn: what is left to ask is the whole.
+-- Whether stages give what is wanted of them: what is found of the parts of two lists side by side is what the definition says of a part of the
+-- curve's stages.
 -- Assumes nothing.
-use mathlib.Core.Path.{◌≡◌}
+use mathlib.Core.Path.{◌≡◌, refl, sym, ap, ◌∙◌}
 use mathlib.Core.Bool.{Bool, true, false, ◌&&◌, ◌||◌, not}
-use mathlib.Core.List.{List, []}
-use Prim.Native.Nat.{ℕ, ◌+◌, ◌-◌, ◌≤◌, ◌<◌}
-use native.Mathlib.Numerals.{add-one}
+use mathlib.Core.List.{List, [], ◌∷◌}
+use Prim.Native.Nat.{ℕ, suc, ◌+◌, ◌-◌, ◌≤◌, ◌<◌}
 use native.Mathlib.Omega.{arith}
-use borrow.Author.Tests.{lt-leb, le-leb}
-use lib.ListN.{length, take, get_or, drop_of_length-le, length-take}
-use lib.Seq.{slice}
+use lib.Dec.{leb}
+use lib.ListN.{length, take, drop, get_or, length-take, length-drop}
+use lib.Seq.{slice, take-take}
+use Rattle.std.specs.List.{list_all, zip}
+use Rattle.std.proofs.Common.{get_or-take, get_or-drop}
+use Rattle.std.proofs.lemmas.Slice.{between_is}
 use Rattle.curves.specs.declared.Stage.{Stage}
 use Rattle.curves.specs.Curve.{line}
-use Rattle.curves.specs.Held.{blank}
-use Rattle.curves.proofs.PartLaws.{next_slice}
-use Rattle.tandem.specs.declared.Flow.{Flow}
-use Rattle.keys.specs.State.{gives, gives_beside}
+use Rattle.keys.specs.State.{gives}
+use Rattle.climb.specs.Branch.{want_in}
 
--- n stages of the array l are the curve's; those from i up to before `to` are still to ask
-module _ (wants : ℕ → ℕ) (rest : ℕ) (l : List Stage) (n to i : ℕ) where
-  pub gives_next : i < to → to ≤ n → n ≤ length l → wants i ≤ line rest (get_or l i blank)
-      → gives wants rest i (slice i to (take n l)) ≡ gives wants rest (i + 1) (slice (i + 1) to (take n l))
+-- the numbers ws are what is wanted of server j and of those behind it
+module _ (rest : ℕ) where
+  all_give : (wants : ℕ → ℕ) (j : ℕ) (l : List Stage) (ws : List ℕ) → length l ≤ length ws → ((i : ℕ) → i < length l → get_or ws i 0 ≡ wants (j + i))
+      → list_all (λ p. leb p.1 (line rest p.0)) (zip l ws) ≡ gives wants rest j l
   unfolding gives
-  gives_next p q r h = rw (add-one i, next_slice l n i to p q r, le-leb (wants i) (line rest (get_or l i blank)) h)
+  all_give wants j [] ws h e = refl
+  all_give wants j (s ∷ l) [] h e = absurd (omega arith)
+  all_give wants j (s ∷ l) (w ∷ ws) h e =
+      let here : w ≡ wants j = e 0 (omega arith) ∙ ap wants (omega arith) in
+      rw (here, all_give wants (suc j) l ws (omega arith) (λ i p. e (suc i) (omega arith) ∙ ap wants (omega arith)))
 
-  pub gives_no : i < to → to ≤ n → n ≤ length l → line rest (get_or l i blank) < wants i → gives wants rest i (slice i to (take n l)) ≡ false
-  unfolding gives
-  gives_no p q r h = rw (next_slice l n i to p q r, lt-leb (wants i) (line rest (get_or l i blank)) h)
+-- an entry of a part is the list's
+part_entry : (a b i : ℕ) (l : List ℕ) → i < length (take (b - a) (drop a l)) → get_or (take (b - a) (drop a l)) i 0 ≡ get_or l (a + i) 0
+part_entry a b i l h = let short = length-take (b - a) (drop a l) in get_or-take (b - a) (drop a l) i 0 (omega arith) ∙ get_or-drop a l i 0
 
-  pub gives_end : to ≤ i → gives wants rest i (slice i to (take n l)) ≡ true
-  unfolding gives
-  gives_end p =
-      let e : slice i to (take n l) ≡ [] = drop_of_length-le (take to (take n l)) {i = i} (omega (arith, length-take to (take n l))) in
-      rw e
+-- what is asked of the servers from place a up to before place b, of the first n, with x slots, which are `rest`
+module _ (x rest : ℕ) (same : x ≡ rest) (wants : List ℕ) (n : ℕ) (l : List Stage) (full : length (take n l) ≡ n) where
+  pub part_gives : (a b : ℕ) → b ≤ n → b ≤ length wants
+      → list_all (λ p. leb p.1 (line x p.0)) (zip (take (b - a) (drop a l)) (take (b - a) (drop a wants))) ≡ gives (want_in wants) rest a (slice a b (take n l))
+  part_gives a b p q =
+      let stages : length (take (b - a) (drop a l)) ≡ b - a = omega (arith, length-take (b - a) (drop a l), length-drop a l, length-take n l, full) in
+      let numbers : length (take (b - a) (drop a wants)) ≡ b - a = omega (arith, length-take (b - a) (drop a wants), length-drop a wants) in
+      rw same
+      (all_give rest (want_in wants) a _ _ (omega arith) (λ i h. part_entry a b i wants (omega arith))
+      ∙ ap (λ (m : List Stage). gives (want_in wants) rest a m) (between_is l a b ∙ ap (drop a) (sym (take-take b n l p))))
 
--- the servers beside a path, of whom a curve of n stages is asked before the path and behind it
-pub beside_is : (wants : ℕ → ℕ) (rest x : ℕ) (f : Flow) (l : List Stage) (n : ℕ) → length l ≡ n → x ≡ rest
-    → (gives wants x 0 (slice 0 (f.first - 1) l) && gives wants x f.last (slice f.last n l)) ≡ gives_beside wants rest f l
-unfolding gives_beside
-beside_is wants rest x f l n e h = rw (h, ← e)
+  pub first_gives : (b : ℕ) → b ≤ n → b ≤ length wants
+      → list_all (λ p. leb p.1 (line x p.0)) (zip (take b l) (take b wants)) ≡ gives (want_in wants) rest 0 (slice 0 b (take n l))
+  first_gives b p q = let e : b - 0 ≡ b = omega arith in rw e at (part_gives 0 b p q)
 
--- the answers of `is_past`, by those of the functions that it asks
-pub past_late : (late g : Bool) → late ≡ true → true ≡ (late || not g)
-past_late late g h = rw h
+  pub last_gives : (a : ℕ) → n ≤ length wants
+      → list_all (λ p. leb p.1 (line x p.0)) (zip (take (n - a) (drop a l)) (take (n - a) (drop a wants))) ≡ gives (want_in wants) rest a (slice a (length (take n l)) (take n l))
+  last_gives a q = rw full (part_gives a n (omega arith) q)
 
-pub past_none : (late b c g : Bool) → late ≡ false → (b && c) ≡ g → b ≡ true → c ≡ true → false ≡ (late || not g)
-past_none late b c g h e p q = rw (h, ← e, p, q)
+-- those of the servers before the path and behind it, by what is found of either
+module _ (late b c p : Bool) (o : late ≡ false) (e : p ≡ b) where
+  pub past_before : p ≡ false → not p ≡ (late || not (b && c))
+  past_before h = rw (o, ← e, h)
 
-pub past_before : (late b c g : Bool) → late ≡ false → (b && c) ≡ g → b ≡ false → true ≡ (late || not g)
-past_before late b c g h e p = rw (h, ← e, p)
-
-pub past_behind : (late b c g : Bool) → late ≡ false → (b && c) ≡ g → b ≡ true → c ≡ false → true ≡ (late || not g)
-past_behind late b c g h e p q = rw (h, ← e, p, q)
+  pub past_behind : (q : Bool) → q ≡ c → p ≡ true → not q ≡ (late || not (b && c))
+  past_behind q f h = rw (o, ← e, ← f, h)

@@ -1,10 +1,9 @@
 -- How the record `Branch` of the code holds a state of the search, and the flows that the search reads.
 -- Assumes nothing.
-use Rattle.std.specs.Prelude.{List, ℕ, suc, ◌-◌, ◌/◌, length, get_or}
+use Rattle.std.specs.Prelude.{List, ℕ, drop, get_or}
 use Rattle.curves.specs.Held.{shape_of}
 use Rattle.tandem.specs.declared.Flow.{Flow}
-use Rattle.tandem.specs.OfSheet.{listed}
-use Rattle.tandem.specs.Lent.{lent_flow}
+use Rattle.tandem.specs.Tandem.{no_flow}
 use Rattle.keys.specs.State.{State, state}
 use Rattle.climb.specs.declared.Branch.{Branch}
 
@@ -12,12 +11,12 @@ use Rattle.climb.specs.declared.Branch.{Branch}
 abbrev pub state_of : Branch → State
 state_of s = state (shape_of s.curve) s.number s.weight
 
--- the flows of a list of numbers: the watched one, and the groups behind it
-abbrev pub watched_in : List ℕ → Flow
-watched_in flows = lent_flow flows 0
+-- of a row's flows the watched one, and the groups behind it
+abbrev pub watched_in : List Flow → Flow
+watched_in flows = get_or flows 0 no_flow
 
-abbrev pub groups_in : List ℕ → List Flow
-groups_in flows = listed (length flows / 4 - 1) (λ i. lent_flow flows (suc i))
+abbrev pub groups_in : List Flow → List Flow
+groups_in flows = drop 1 flows
 
 -- what a list of numbers wants of server j
 abbrev pub want_in : List ℕ → ℕ → ℕ

@@ -1,9 +1,10 @@
 -- What the recursion of the search asks of its arguments, and what it gives: the least of the best so far and of the keys of all points below a
 -- branch, whatever was chosen to get there.
 -- Assumes nothing.
-use Rattle.std.specs.Prelude.{◌≡◌, List, ℕ, ◌+◌, ◌*◌, ◌/◌, ◌≤◌, ◌<◌, ◌^◌, length}
+use Rattle.std.specs.Prelude.{◌≡◌, List, ℕ, ◌+◌, ◌*◌, ◌≤◌, ◌<◌, ◌^◌, length}
 use Rattle.curves.specs.Held.{shape_of}
 use Rattle.ground.specs.Each.{Each}
+use Rattle.tandem.specs.declared.Flow.{Flow}
 use Rattle.tree.specs.Ordered.{Placed}
 use Rattle.keys.specs.Keys.{least_of}
 use Rattle.keys.specs.Choose.{keys_under}
@@ -21,15 +22,14 @@ pub record Stepped (steps : Steps) : Type 0 where
   pub are : steps ≡ steps_in steps.start steps.grid
 
 -- the least of `best` and of the keys of all points whose groups behind the first k are as the branch holds them
-unfoldable pub least_key : List ℕ → Steps → ℕ → Branch → ℕ → ℕ
+unfoldable pub least_key : List Flow → Steps → ℕ → Branch → ℕ → ℕ
 least_key flows steps k s best =
     least_of best (keys_under (climb 65536 (watched_in flows) (groups_in flows) (step_at steps.start steps.grid) steps.grid) (digits_of steps) k (state_of s))
 
-pub record Ready (flows : List ℕ) (steps : Steps) (k : ℕ) (s : Branch) (wants : List ℕ) (best : ℕ) : Type 0 where
+pub record Ready (flows : List Flow) (steps : Steps) (k : ℕ) (s : Branch) (wants : List ℕ) (best : ℕ) : Type 0 where
   pub stepped : Stepped steps
   -- flow k is there
-  pub reached : k < length flows / 4
-  pub few : length flows ≤ 128
+  pub reached : k < length flows
   -- a stage for each server, and every path among them
   pub size : s.curve.count ≤ 16
   pub full : length (shape_of s.curve).stages ≡ s.curve.count

@@ -3,22 +3,23 @@
 
 #![tactic(auto)]
 
-ghost use Rattle.std.specs.Prelude.{◌≡◌, ℕ, ◌+◌, ◌-◌, ◌*◌, ◌≤◌, ◌<◌, ◌^◌, min, ◌||◌, not, leb};
+ghost use Rattle.std.specs.Prelude.{◌≡◌, ℕ, ◌+◌, ◌-◌, ◌*◌, ◌≤◌, ◌<◌, ◌^◌, ◌||◌, not, leb, All};
+ghost use Rattle.std.specs.List.{list_all, zip};
 ghost use Rattle.std.proofs.Math.Seq.{slice};
 ghost use Rattle.ground.specs.Each.{Each};
 ghost use Rattle.curves.specs.Curve.{line, delay};
 ghost use Rattle.curves.specs.Held.{InRange, Holds, shape_of};
 ghost use Rattle.curves.specs.Part.{changed};
 ghost use Rattle.keys.specs.Left.{left_by};
-ghost use Rattle.keys.specs.State.{gives, rest_of, gives_beside, gives_under};
+ghost use Rattle.keys.specs.State.{rest_of, gives_beside, gives_under};
 ghost use Rattle.climb.specs.Branch.{want_in};
 ghost use Rattle.climb.specs.Asked.{Takes, Asks};
 ghost use Rattle.climb.specs.Choosing.{Ready};
 ghost use Rattle.climb.specs.Contract.{Choose};
 
-use curves::Curve;
+use curves::{Curve, Stage, change};
 use grid::Steps;
-use tandem::{Flow, flow_in};
+use tandem::Flow;
 
 // What the groups chosen so far leave of the row, the number that their digits write, and what a digit of the next group counts.
 #[derive(Clone, Copy)]
@@ -36,34 +37,25 @@ fn is_late(slots: u64, number: u64, best: u64) -> bool
     best <= slots * 65536 + number
 }
 
-// The numbers from `from` up to before `to` lowered; the others stay.
-fn lowered(wants: [u64; 16], from: usize, to: usize, by: u64) -> [u64; 16]
-    requires { (from ≤ to) × (to ≤ 16) × ((j : ℕ) → from ≤ j → j < to → by ≤ want_in wants j) }
-    ensures { result ≡ changed (λ (x : ℕ). x - by) from to wants }
+// The numbers with those from `from` up to before `to` lowered.
+fn lowered(wants: &[u64; 16], from: usize, to: usize, by: u64) -> [u64; 16]
+    requires { (from ≤ to) × (to ≤ 16) × ((j : ℕ) → from ≤ j → j < to → by ≤ want_in wants.now j) }
+    ensures { result ≡ changed (λ (x : ℕ). x - by) from to wants.now }
 {
-    let mut r = wants;
-    let mut j = from;
-    while j < to {
-        r[j] = r[j] - by;
-        j = j + 1;
-    }
-    r
+    let mut fewer = *wants;
+    change(&mut fewer, from, to, |want| want - by);
+    fewer
 }
 
-// Whether each stage from `from` up to before `to` has in `rest` slots what is wanted of it.
-fn gives(c: Curve, from: usize, to: usize, wants: [u64; 16], rest: u64) -> bool
-    requires { (to ≤ c.count) × (c.count ≤ 16) × Each (λ s. line rest s < 2 ^ 63) (shape_of c).stages }
-    ensures { result ≡ gives (want_in wants) rest from (slice from to (shape_of c).stages) }
+// Whether each of these stages has in `rest` slots what is wanted of it.
+fn gives(stages: &[Stage], wants: &[u64], rest: u64) -> bool
+    requires { All (λ s. line rest s < 2 ^ 63) stages.now }
+    ensures { result ≡ list_all (λ p. leb p.1 (line rest p.0)) (zip stages.now wants.now) }
 {
-    let mut i = from;
-    while i < to {
-        let s = c.stages[i];
-        if s.burst + s.rate * rest < wants[i] {
-            return false;
-        }
-        i = i + 1;
-    }
-    true
+    stages
+        .iter()
+        .zip(wants)
+        .all(|(s, want)| *want <= s.burst + s.rate * rest)
 }
 
 // The slots that are left behind these, up to the greatest delay whose key with this number is below the best so far, and one more.
@@ -74,84 +66,87 @@ fn rest_of(slots: u64, number: u64, best: u64) -> u64
     (best - 1 - number) / 65536 - slots + 1
 }
 
-// The branch behind which group g is chosen, `gap` slots after the slots so far, with a digit of a grid.
-fn next(s: Branch, g: Flow, gap: u64, digit: u64, grid: u64) -> Branch
-    requires { Takes s g gap digit grid }
-    ensures { Holds result.curve (left_by (shape_of s.curve) g gap) × (result.number ≡ s.number + digit * s.weight) × (result.weight ≡ s.weight * grid) }
-{
-    let c = s.curve;
-    let left = c.left(g.first - 1, g.last, g.burst, g.rate, gap);
-    Branch {
-        curve: left,
-        number: s.number + digit * s.weight,
-        weight: s.weight * grid,
-    }
-}
-
-// Whether a step of group g, and each later one, is no better than the best so far: its slots have reached it, or some server beside the path
-// of g can not give, in the slots that are left, what is wanted of it.
-fn is_past(c: Curve, g: Flow, slots: u64, number: u64, wants: [u64; 16], best: u64) -> bool
-    requires { Asks c g slots number best }
-    ensures { result ≡ (leb best (slots * 65536 + number) || not (gives_beside (want_in wants) (rest_of 65536 best slots number) g (shape_of c).stages)) }
-{
-    if is_late(slots, number, best) {
-        return true;
-    }
-    let rest = rest_of(slots, number, best);
-    if gives(c, 0, g.first - 1, wants, rest) {
-        if gives(c, g.last, c.count, wants, rest) {
-            return false;
+impl Branch {
+    // The branch behind which group g is chosen, `gap` slots after the slots so far, with a digit of a grid.
+    fn next(&self, g: Flow, gap: u64, digit: u64, grid: u64) -> Branch
+        requires { Takes self.now g gap digit grid }
+        ensures { Holds result.curve (left_by (shape_of self.now.curve) g gap) × (result.number ≡ self.now.number + digit * self.now.weight)
+            × (result.weight ≡ self.now.weight * grid) }
+    {
+        let curve = self.curve.left(g.first - 1, g.last, g.burst, g.rate, gap);
+        Branch {
+            curve,
+            number: self.number + digit * self.weight,
+            weight: self.weight * grid,
         }
     }
-    true
-}
 
-// Whether each server under the path of g can still give, in the slots that are left below the best so far, what is wanted of it.
-fn is_open(s: Branch, g: Flow, wants: [u64; 16], best: u64) -> bool
-    requires { Asks s.curve g s.curve.offset s.number best × (s.curve.offset * 65536 + s.number < best) }
-    ensures { result ≡ gives_under (want_in wants) (rest_of 65536 best s.curve.offset s.number) g (shape_of s.curve).stages }
-{
-    let c = s.curve;
-    let rest = rest_of(c.offset, s.number, best);
-    gives(c, g.first - 1, g.last, wants, rest)
-}
+    // Whether a step of group g, and each later one, is no better than the best so far: its slots have reached it, or some server beside the path
+    // of g can not give, in the slots that are left, what is wanted of it.
+    fn is_past(&self, g: Flow, slots: u64, number: u64, wants: &[u64; 16], best: u64) -> bool
+        requires { Asks self.now.curve g slots number best }
+        ensures { result ≡ (leb best (slots * 65536 + number)
+            || not (gives_beside (want_in wants.now) (rest_of 65536 best slots number) g (shape_of self.now.curve).stages)) }
+    {
+        if is_late(slots, number, best) {
+            return true;
+        }
+        let c = &self.curve;
+        let rest = rest_of(slots, number, best);
+        !gives(&c.stages[..g.first - 1], &wants[..g.first - 1], rest)
+            || !gives(&c.stages[g.last..c.count], &wants[g.last..c.count], rest)
+    }
 
-// The lesser of the best so far and the key of a whole point.
-fn leaf(s: Branch, w: Flow, best: u64) -> u64
-    requires { InRange s.curve × (w.burst + w.rate < 2 ^ 40) × (delay (shape_of s.curve) w.burst w.rate < 2 ^ 42) × (s.number < 65536) }
-    ensures { result ≡ min best (delay (shape_of s.curve) w.burst w.rate * 65536 + s.number) }
-{
-    let c = s.curve;
-    let key = c.delay(w.burst, w.rate) * 65536 + s.number;
-    if key < best { key } else { best }
+    // Whether each server under the path of g can still give, in the slots that are left below the best so far, what is wanted of it.
+    fn is_open(&self, g: Flow, wants: &[u64; 16], best: u64) -> bool
+        requires { Asks self.now.curve g self.now.curve.offset self.now.number best × (self.now.curve.offset * 65536 + self.now.number < best) }
+        ensures { result ≡ gives_under (want_in wants.now) (rest_of 65536 best self.now.curve.offset self.now.number) g (shape_of self.now.curve).stages }
+    {
+        let rest = rest_of(self.curve.offset, self.number, best);
+        let (from, to) = (g.first - 1, g.last);
+        gives(&self.curve.stages[from..to], &wants[from..to], rest)
+    }
+
+    // The key of a whole point, at which the watched flow w has its delay.
+    fn key(&self, w: Flow) -> u64
+        requires { InRange self.now.curve × (w.burst + w.rate < 2 ^ 40) × (delay (shape_of self.now.curve) w.burst w.rate < 2 ^ 42) × (self.now.number < 65536) }
+        ensures { result ≡ delay (shape_of self.now.curve) w.burst w.rate * 65536 + self.now.number }
+    {
+        self.curve.delay(w.burst, w.rate) * 65536 + self.number
+    }
 }
 
 // The least of the best so far and of the keys of all points below a branch, with the first k groups still to be chosen: group k with each
 // step in turn, and below each the groups before it.
-pub fn choose(flows: &[u64], steps: Steps, k: usize, s: Branch, wants: [u64; 16], best: u64) -> u64
-    requires { Ready flows.now steps k s wants best }
-    ensures { Choose flows.now steps k s best result }
+#[tactic(auto, using(crate::proofs::Climbing::steps_short))]
+pub fn choose(
+    flows: &[Flow],
+    steps: &Steps,
+    k: usize,
+    s: &Branch,
+    wants: &[u64; 16],
+    best: u64,
+) -> u64
+    requires { Ready flows.now steps.now k s.now wants.now best }
+    ensures { Choose flows.now steps.now k s.now best result }
 {
-    let g = flow_in(flows, k);
+    let g = flows[k];
     if k == 0 {
-        return leaf(s, g, best);
+        return best.min(s.key(g));
     }
-    let c = s.curve;
-    let least = c.lag(g.first - 1, g.last, g.burst);
+    let least = s.curve.lag(g.first - 1, g.last, g.burst);
     let fewer = lowered(wants, g.first - 1, g.last, g.burst);
     let mut b = best;
-    let mut i: usize = 0;
-    while i < steps.count {
-        let gap = least + steps.values[i];
-        let digit = steps.digits[i];
-        if is_past(c, g, c.offset + gap, s.number + digit * s.weight, wants, b) {
+    for step in &steps.steps[..steps.count] {
+        let gap = least + step.value;
+        let number = s.number + step.digit * s.weight;
+        if s.is_past(g, s.curve.offset + gap, number, wants, b) {
             return b;
         }
-        let next = next(s, g, gap, digit, steps.grid);
-        if is_open(next, g, fewer, b) {
-            b = choose(flows, steps, k - 1, next, fewer, b);
+        let next = s.next(g, gap, step.digit, steps.grid);
+        if next.is_open(g, &fewer, b) {
+            b = choose(flows, steps, k - 1, &next, &fewer, b);
         }
-        i = i + 1;
     }
     b
 }

@@ -1,7 +1,7 @@
 -- The backlog of a bucket over a curve is the greatest, over all slots, of the bucket less the curve: up to the offset the curve is 0 and the bucket
 -- rises, and from one slot behind it on no stage rises more slowly than the bucket.
 -- Assumes nothing.
-use Rattle.std.specs.Prelude.{◌≡◌, List, [], ◌∷◌, ◌⊎◌, ℕ, suc, ◌+◌, ◌*◌, ◌-◌, ◌≤◌, ◌<◌, min, max, length}
+use Rattle.std.specs.Prelude.{◌≡◌, List, [], ◌∷◌, ◌⊎◌, ℕ, suc, ◌+◌, ◌*◌, ◌^◌, ◌-◌, ◌≤◌, ◌<◌, min, max, length}
 use Rattle.std.proofs.Common.{ap, inl, inr, mul-le-mul_right, arith}
 use Rattle.ground.proofs.OrderLaws.{le_or_lt}
 use Rattle.ground.specs.Each.{Each}
@@ -108,3 +108,7 @@ backlog_le c σ ρ =
     each : (l : List Stage) → Each (λ s. bucket σ ρ (c.offset + 1) - line 1 s ≤ bucket σ ρ (c.offset + 1)) l
     each [] = tt
     each (s ∷ l) = (omega arith, each l)
+
+-- what a bucket may send up to the offset and a rate more fits
+pub sent_small : (σ ρ offset : ℕ) → bucket σ ρ (offset + 1) < 2 ^ 63 → σ + ρ * offset + ρ < 2 ^ 63
+sent_small σ ρ offset h = omega (arith, bucket_after σ ρ (offset + 1) (omega arith), h)

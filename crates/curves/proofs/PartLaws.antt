@@ -88,7 +88,7 @@ drop_changed f n (suc a) zero (x ∷ l) h = refl
 drop_changed f zero (suc a) (suc b) (x ∷ l) h = absurd (omega arith)
 drop_changed f (suc n) (suc a) (suc b) (x ∷ l) h = drop_changed f n a b l (omega arith)
 
-changed_all : {A : Type 0} (f : A → A) (n : ℕ) (l : List A) → length l ≤ n → changed f 0 n l ≡ map f l
+pub changed_all : {A : Type 0} (f : A → A) (n : ℕ) (l : List A) → length l ≤ n → changed f 0 n l ≡ map f l
 changed_all f n [] h = refl
 changed_all f zero (x ∷ l) h = absurd (omega arith)
 changed_all f (suc n) (x ∷ l) h = ap (λ (m : List _). f x ∷ m) (changed_all f n l (omega arith))

@@ -1,4 +1,4 @@
--- The loops over a part of the stages, one place a turn.
+-- The loop of `lag` over a part of the stages, one place a turn.
 -- Assumes nothing.
 use mathlib.Core.Path.{◌≡◌, ap, subst}
 use mathlib.Core.List.{List, []}
@@ -6,12 +6,12 @@ use Prim.Native.Nat.{ℕ, suc, ◌+◌, ◌≤◌, ◌<◌, max}
 use native.Mathlib.Numerals.{add-one}
 use native.Mathlib.Omega.{arith}
 use lib.ListN.{length, take, get_or, drop_of_length-le, length-take}
-use lib.Seq.{slice, get_or-take}
+use lib.Seq.{slice}
 use Rattle.ground.specs.Each.{Each}
 use Rattle.curves.specs.declared.Stage.{Stage}
 use Rattle.curves.specs.Curve.{greatest}
 use Rattle.curves.specs.Held.{Live, blank}
-use Rattle.curves.proofs.PartLaws.{all_slice, next_slice}
+use Rattle.curves.proofs.PartLaws.{next_slice}
 
 -- the greatest of f over a part of the stages, none of which is above `top`: `most` and what the stages from i on have make the whole; n stages of the
 -- array are the curve's
@@ -19,13 +19,6 @@ pub record Rising (f : Stage → ℕ) (top : ℕ) (l : List Stage) (n from to mo
   pub below : most ≤ top
   pub live : Each Live (slice i to (take n l))
   pub whole : max most (greatest f (slice i to (take n l))) ≡ greatest f (slice from to (take n l))
-
-pub begin_rising : (f : Stage → ℕ) (top : ℕ) (l : List Stage) (n from to : ℕ) → Each Live (slice from to (take n l)) → Rising f top l n from to 0 from
-begin_rising f top l n from to h = record { below = omega arith; live = h; whole = omega arith }
-
-pub live_next : {f : Stage → ℕ} {top : ℕ} {l : List Stage} {n from to most i : ℕ} → Rising f top l n from to most i → i < to → to ≤ n → n ≤ length l
-    → Live (get_or l i blank)
-live_next {l = l} {n = n} {to = to} {i = i} h p q r = (subst (Each Live) (next_slice l n i to p q r) h.live).0
 
 pub turn_rising : {f : Stage → ℕ} {top : ℕ} {l : List Stage} {n from to most i : ℕ} → Rising f top l n from to most i → i < to → to ≤ n → n ≤ length l
     → ((s : Stage) → Live s → f s ≤ top) → (m : ℕ) → m ≡ max most (f (get_or l i blank)) → Rising f top l n from to m (i + 1)
@@ -49,8 +42,3 @@ unfolding greatest
 end_rising {f} {top} {l} {n} {from} {to} {most} {i} h p =
     let g : greatest f (slice i to (take n l)) ≡ 0 = ap (greatest f) (slice_end (take n l) i to p) in
     omega (arith, g, h.whole)
-
--- what holds of a part holds at each place of it
-pub part_at : (P : Stage → Type 0) (l : List Stage) (n a b j : ℕ) → Each P (slice a b (take n l)) → a ≤ j → j < b → b ≤ n → n ≤ length l → P (get_or l j blank)
-part_at P l n a b j h p q r s =
-    subst P (get_or-take n l j blank (omega arith)) (all_slice P a b (take n l) j blank h p q (omega (arith, length-take n l)))

@@ -1,7 +1,10 @@
 -- Laws of stages: what holds of each stage of a list, quotients rounded up, and how many slots a stage needs to have a number of bytes.
 -- Assumes nothing.
-use Rattle.std.specs.Prelude.{◌≡◌, refl, List, [], ◌∷◌, ◌⊎◌, ℕ, zero, suc, ◌+◌, ◌-◌, ◌*◌, ◌≤◌, ◌<◌}
+use Rattle.std.specs.Prelude.{◌≡◌, refl, List, [], ◌∷◌, map, ◌⊎◌, ℕ, zero, suc, ◌+◌, ◌-◌, ◌*◌, ◌/◌, ◌%◌, ◌≤◌, ◌<◌, max, min}
+use Rattle.std.specs.List.{fold, reduce}
+use Rattle.std.specs.Option.{unwrap_or}
 use Rattle.std.proofs.Common.{inl, inr, mul-le-mul_left, mul-le-mul_right, le_antisymm, div-lt_iff_lt-mul, arith}
+use Rattle.std.proofs.lemmas.Grind.{div_ceil_times}
 use Rattle.std.proofs.Math.Nat.{mul-sub, div-zero, lt-div-mul-add}
 use Rattle.ground.proofs.EachLaws.{each_map}
 use Rattle.ground.specs.Each.{Each}
@@ -29,6 +32,17 @@ unfolding greatest
 le_greatest f w [] h = tt
 le_greatest f w (s ∷ l) h = (omega arith, le_greatest f w l (omega arith))
 
+-- as a chain of iterators finds it
+fold_greatest : (f : Stage → ℕ) (most : ℕ) (l : List Stage) → fold max most (map f l) ≡ max most (greatest f l)
+unfolding greatest
+fold_greatest f most [] = omega arith
+fold_greatest f most (s ∷ l) = omega (arith, fold_greatest f (max most (f s)) l)
+
+pub max_greatest : (f : Stage → ℕ) (l : List Stage) → unwrap_or (reduce max (map f l)) 0 ≡ greatest f l
+unfolding greatest
+max_greatest f [] = refl
+max_greatest f (s ∷ l) = fold_greatest f (f s) l
+
 -- if one function is one less than another at each stage, so are the greatest values
 pub greatest_pred : (f g : Stage → ℕ) (l : List Stage) → Each (λ s. f s ≡ g s - 1) l → greatest f l ≡ greatest g l - 1
 unfolding greatest
@@ -48,7 +62,20 @@ ceil_least a r w h k =
     let y = (div-lt_iff_lt-mul {k = r} {x = a + (r - 1)} {y = suc w} h).1 x in
     omega arith
 
--- r less to divide is one slot less
+-- as the code rounds: the quotient, and one more where a rest is left
+pub ceil_by_rest : (a r : ℕ) → 1 ≤ r → a / r + min 1 (a % r) ≡ ceil a r
+ceil_by_rest a r h =
+    let t = div_ceil_times a r h in
+    le_antisymm (le_of_mul-lt r (omega (arith, t.1, ceil_enough a r h))) (ceil_least a r (a / r + min 1 (a % r)) h (omega (arith, t.0)))
+  where
+    -- a product below one more of its kind
+    le_of_mul-lt : {q c : ℕ} (r : ℕ) → q * r < r * c + r → q ≤ c
+    le_of_mul-lt {q} {c} r p = go (le_or_lt q c)
+      where
+        go : (q ≤ c) ⊎ (c < q) → q ≤ c
+        go (inl l) = l
+        go (inr l) = absurd (omega (arith, mul-le-mul_right r l))
+
 -- no more slots than bytes, whatever the rate
 pub ceil_le : (a r : ℕ) → ceil a r ≤ a
 unfolding ceil
@@ -59,6 +86,7 @@ ceil_le a (suc r) =
     let y = (div-lt_iff_lt-mul {k = suc r} {x = a + (suc r - 1)} {y = suc a} (omega arith)).1 x in
     omega arith
 
+-- r less to divide is one slot less
 pub ceil_pred : (a r : ℕ) → 1 ≤ r → ceil (a - r) r ≡ ceil a r - 1
 ceil_pred a r h = le_antisymm low high
   where

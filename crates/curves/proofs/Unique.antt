@@ -1,10 +1,13 @@
--- Each public method leaves one possible result: two results that both meet its contract are equal.
+-- Each public function leaves one possible result: two results that both meet its contract are equal.
 -- Assumes nothing.
-use Rattle.std.specs.Prelude.{◌≡◌, ℕ}
+use Rattle.std.specs.Prelude.{◌≡◌, List, ℕ}
 use Rattle.ground.proofs.ValueLaws.{one_value}
 use Rattle.curves.specs.declared.Stage.{Stage}
 use Rattle.curves.specs.declared.Curve.{Curve}
-use Rattle.curves.specs.Contract.{CatchUp, After, None, Join, Lag, Left, LeastWait, Remainder, Delay, Backlog}
+use Rattle.curves.specs.Contract.{Change, CatchUp, After, None, Join, Lag, Left, LeastWait, Remainder, Delay, Backlog}
+
+pub change_unique : (T : Type 0) (gives : T → T → Type 0) (from to : ℕ) (before a b : List T) → Change gives from to before a → Change gives from to before b → a ≡ b
+change_unique T gives from to before a b h k = one_value (h.is h.acts.0 h.acts.1) (k.is h.acts.0 h.acts.1)
 
 pub catch_up_unique : (s : Stage) (σ most : ℕ) (a b : ℕ) → CatchUp s σ most a → CatchUp s σ most b → a ≡ b
 catch_up_unique s σ most a b h k = one_value h.is k.is

@@ -1,12 +1,19 @@
--- What each public method promises: one record a method, of the record it is called on, its inputs and its result. Unique.antt proves that these
+-- What each public function promises: one record a function, of the record it is called on, its inputs and its result. Unique.antt proves that these
 -- leave one result.
 -- Assumes nothing.
-use Rattle.std.specs.Prelude.{◌≡◌, ℕ, max, drop, replicate}
+use Rattle.std.specs.Prelude.{◌≡◌, List, ℕ, max, drop, replicate}
 use Rattle.curves.specs.declared.Stage.{Stage}
 use Rattle.curves.specs.declared.Curve.{Curve}
 use Rattle.curves.specs.Curve.{neutral, joined, after, remainder, catch_up, least_wait, delay, backlog}
 use Rattle.curves.specs.Held.{shape_of, spare, held, Holds, blank}
-use Rattle.curves.specs.Part.{lag_in, left_in}
+use Rattle.curves.specs.Part.{Acts, changed, lag_in, left_in}
+
+-- `change`, by a function f that gives `gives` of a value
+pub record Change {T : Type 0} (gives : T → T → Type 0) (from to : ℕ) (before after : List T) : Type 0 where
+  -- f acts as some function
+  pub acts : (h : T → T) × Acts gives h
+  -- and that of the entries from place `from` up to before place `to`; the others stay
+  pub is : (h : T → T) → Acts gives h → after ≡ changed h from to before
 
 -- `catch_up`
 pub record CatchUp (s : Stage) (σ most r : ℕ) : Type 0 where

@@ -1,9 +1,13 @@
 -- A part of a curve's stages: how long a group waits for it, and what the group leaves of it. The search holds all servers of a row in one
 -- curve, a stage for each, and a group's path is a part of it.
 -- Assumes nothing.
-use Rattle.std.specs.Prelude.{List, [], ◌∷◌, ℕ, zero, suc, ◌+◌}
+use Rattle.std.specs.Prelude.{◌≡◌, List, [], ◌∷◌, ℕ, zero, suc, ◌+◌}
 use Rattle.std.proofs.Math.Seq.{slice}
 use Rattle.curves.specs.Curve.{Shape, after, greatest, catch_up}
+
+-- what is given of a value, `gives`, is what h gives of it
+abbrev pub Acts : {A : Type 0} → (A → A → Type 0) → (A → A) → Type 0
+Acts {A} gives h = (x r : A) → gives x r → r ≡ h x
 
 -- f of the entries from place a up to before place b; the others stay
 abbrev pub changed : {A : Type 0} → (A → A) → ℕ → ℕ → List A → List A

@@ -7,16 +7,18 @@ use Rattle.std.proofs.Common.{sym, ap, ◌∙◌, inl, inr, zero-mul, mul-le-mul
 use mathlib.Core.List.{List, [], ◌∷◌, ◌++◌, map}
 use Prim.Native.Nat.{ℕ, zero, suc, ◌-◌, ◌≤◌, ◌<◌}
 use Rattle.std.proofs.Math.Nat.{zero-div, div-le_of_le-mul}
-use Rattle.std.proofs.Math.ListN.{length, replicate, length-append, length-replicate, length-map}
+use Rattle.std.proofs.Math.ListN.{length, replicate, take, length-append, length-replicate, length-map}
 use Rattle.std.proofs.Math.Seq.{take_at}
+use Rattle.std.proofs.lemmas.List.{map-id}
+use Rattle.std.proofs.lemmas.Simd.{map-map}
 use Rattle.ground.specs.Each.{Each}
 use Rattle.ground.proofs.EachLaws.{each_append}
-use Rattle.tree.proofs.GridLaws.{each_below, zeros_below}
 use Rattle.keys.specs.Numbers.{In, keep, first_digits, Growing}
 use Rattle.keys.proofs.NumberLaws.{first_digits_stand, first_digits_grow}
 use Rattle.keys.proofs.ChooseLaws.{first_digits_few}
 use Rattle.keys.proofs.StateLaws.{step_rises}
-use Rattle.grid.specs.Steps.{step_at, steps_in, digits_of, values_of}
+use Rattle.grid.specs.declared.Step.{Step}
+use Rattle.grid.specs.Steps.{step_at, step_with, no_step, steps_in, digits_of, values_of}
 
 -- the first step is 0
 pub step_zero : (start g : ℕ) → step_at start g 0 ≡ 0
@@ -45,13 +47,23 @@ each_member P [] x i h = absurd i
 each_member P (y ∷ l) x (inl e) h = rw e h.0
 each_member P (y ∷ l) x (inr i) h = each_member P l x i h.1
 
--- of digits that grow behind the first, each step is at least the second's
-second_least : (step : ℕ → ℕ) → ((d e : ℕ) → d ≤ e → step d ≤ step e) → (d : ℕ) (ds : List ℕ) → Growing (0 ∷ ds) → In d (0 ∷ ds) → step 0 ≡ 0 → (l : List ℕ)
-    → (step d ≡ 0) ⊎ (get_or (map step (0 ∷ ds) ++ l) 1 0 ≤ step d)
-second_least step up d ds r (inl e) z l = inl (ap step e ∙ z)
-second_least step up d [] r (inr i) z l = absurd i
-second_least step up d (x ∷ ds) r (inr (inl e)) z l = inr (up x d (omega arith))
-second_least step up d (x ∷ ds) r (inr (inr i)) z l = let h = each_member (λ e. x < e) ds d i r.1.0 in inr (up x d (omega arith))
+-- of digits that grow behind the first, each one's step is at least the second's
+second_least : (make : ℕ → Step) → ((d e : ℕ) → d ≤ e → (make d).value ≤ (make e).value) → (d : ℕ) (ds : List ℕ) → Growing (0 ∷ ds) → In d (0 ∷ ds)
+    → (make 0).value ≡ 0 → (l : List Step) → ((make d).value ≡ 0) ⊎ ((get_or (map make (0 ∷ ds) ++ l) 1 no_step).value ≤ (make d).value)
+second_least make up d ds r (inl e) z l = inl (ap (λ (n : ℕ). (make n).value) e ∙ z)
+second_least make up d [] r (inr i) z l = absurd i
+second_least make up d (x ∷ ds) r (inr (inl e)) z l = inr (up x d (omega arith))
+second_least make up d (x ∷ ds) r (inr (inr i)) z l = let h = each_member (λ e. x < e) ds d i r.1.0 in inr (up x d (omega arith))
+
+-- entries whose steps are at most b, with entries of zeros behind them
+each_low : (b : ℕ) (l : List Step) → Each (λ s. s.value ≤ b) l → (i : ℕ) → (get_or l i no_step).value ≤ b
+each_low b [] h i = omega arith
+each_low b (s ∷ l) h zero = h.0
+each_low b (s ∷ l) h (suc i) = each_low b l h.1 i
+
+none_low : (b n : ℕ) → Each (λ s. s.value ≤ b) (replicate n no_step)
+none_low b zero = tt
+none_low b (suc n) = (omega arith, none_low b n)
 
 module _ (start g : ℕ) where
   few : g ≤ 9 → length (first_digits (step_at start g) g) ≤ 9
@@ -68,55 +80,62 @@ module _ (start g : ℕ) where
   unfolding steps_in
   steps_few h = few h
 
-  pub digits_held : digits_of (steps_in start g) ≡ first_digits (step_at start g) g
+  steps_held : take (steps_in start g).count (steps_in start g).steps ≡ map (step_with start g) (first_digits (step_at start g) g)
   unfolding steps_in
+  steps_held =
+      let l = first_digits (step_at start g) g in
+      let m = map (step_with start g) l in
+      take_at m (replicate (9 - length m) no_step) (length l) (length-map l (step_with start g))
+
+  pub digits_held : digits_of (steps_in start g) ≡ first_digits (step_at start g) g
   digits_held =
       let l = first_digits (step_at start g) g in
-      take_at l (replicate (9 - length l) 0) (length l) refl
+      ap (map (λ (s : Step). s.digit)) steps_held ∙ map-map (λ (s : Step). s.digit) (step_with start g) l ∙ map-id l
 
   pub values_held : values_of (steps_in start g) ≡ map (step_at start g) (first_digits (step_at start g) g)
-  unfolding steps_in
   values_held =
       let l = first_digits (step_at start g) g in
-      let m = map (step_at start g) l in
-      take_at m (replicate (9 - length m) 0) (length l) (length-map l (step_at start g))
+      ap (map (λ (s : Step). s.value)) steps_held ∙ map-map (λ (s : Step). s.value) (step_with start g) l
 
-  pub digits_full : g ≤ 9 → length (steps_in start g).digits ≡ 9
+  pub steps_full : g ≤ 9 → length (steps_in start g).steps ≡ 9
   unfolding steps_in
-  digits_full h =
+  steps_full h =
       let l = first_digits (step_at start g) g in
-      length-append l (replicate (9 - length l) 0) ∙ omega (arith, length-replicate {A = ℕ} (9 - length l) 0, few h)
+      let m = map (step_with start g) l in
+      length-append m (replicate (9 - length m) no_step)
+      ∙ omega (arith, length-replicate {A = Step} (9 - length m) no_step, length-map l (step_with start g), few h)
 
-  pub values_full : g ≤ 9 → length (steps_in start g).values ≡ 9
-  unfolding steps_in
-  values_full h =
-      let l = first_digits (step_at start g) g in
-      let m = map (step_at start g) l in
-      length-append m (replicate (9 - length m) 0) ∙ omega (arith, length-replicate {A = ℕ} (9 - length m) 0, length-map l (step_at start g), few h)
+  pub digits_full : g ≤ 9 → length (map (λ (s : Step). s.digit) (steps_in start g).steps) ≡ 9
+  digits_full h = length-map (steps_in start g).steps (λ (s : Step). s.digit) ∙ steps_full h
 
-  -- no value is above start
-  pub values_low : (i : ℕ) → get_or (steps_in start g).values i 0 ≤ start
+  pub values_full : g ≤ 9 → length (map (λ (s : Step). s.value) (steps_in start g).steps) ≡ 9
+  values_full h = length-map (steps_in start g).steps (λ (s : Step). s.value) ∙ steps_full h
+
+  -- no step that is held is above start
+  pub values_low : (i : ℕ) → (get_or (steps_in start g).steps i no_step).value ≤ start
   unfolding steps_in
   values_low i =
       let l = first_digits (step_at start g) g in
-      each_below start (map (step_at start g) l ++ replicate {A = ℕ} (9 - length (map (step_at start g) l)) 0)
-      (each_append (λ e. e ≤ start) (map (step_at start g) l) (replicate {A = ℕ} (9 - length (map (step_at start g) l)) 0)
-      (low_steps l (first_digits_stand (step_at start g) g).digits) (zeros_below start (9 - length (map (step_at start g) l)))) i
+      let m = map (step_with start g) l in
+      each_low start (m ++ replicate (9 - length m) no_step)
+      (each_append (λ s. s.value ≤ start) m (replicate (9 - length m) no_step) (low_steps l (first_digits_stand (step_at start g) g).digits)
+      (none_low start (9 - length m))) i
     where
-      low_steps : (l : List ℕ) → Each (λ d. d < g) l → Each (λ e. e ≤ start) (map (step_at start g) l)
+      low_steps : (l : List ℕ) → Each (λ d. d < g) l → Each (λ s. s.value ≤ start) (map (step_with start g) l)
       low_steps [] h = tt
       low_steps (d ∷ l) h = (steps_le start g d h.0, low_steps l h.1)
 
-  -- values[1] is the least step that is not 0; where there is none, it is the 0 that stands behind the steps
-  pub second_step : 2 ≤ g → (d : ℕ) → d < g → (step_at start g d ≡ 0) ⊎ (get_or (steps_in start g).values 1 0 ≤ step_at start g d)
+  -- the second entry's is the least step that is not 0; where there is none, it is the 0 that stands behind the steps
+  pub second_step : 2 ≤ g → (d : ℕ) → d < g → (step_at start g d ≡ 0) ⊎ ((get_or (steps_in start g).steps 1 no_step).value ≤ step_at start g d)
   unfolding steps_in
   second_step h d k =
+      let make = step_with start g in
       let ds = first_digits (step_at start g) g in
       let s = first_zero (omega arith) in
       let a = (first_digits_stand (step_at start g) g).all d k in
-      let pad : List ℕ = replicate (9 - length (map (step_at start g) ds)) 0 in
-      let r = second_least (step_at start g) (step_rises start g) a.0 s.0
+      let pad : List Step = replicate (9 - length (map make ds)) no_step in
+      let r = second_least make (step_rises start g) a.0 s.0
       (subst Growing s.1 (first_digits_grow (step_at start g) g)) (subst (In a.0) s.1 a.1) (step_zero start g) pad in
-      let q : (step_at start g a.0 ≡ 0) ⊎ (get_or (map (step_at start g) ds ++ pad) 1 0 ≤ step_at start g a.0) =
-      subst (λ (l : List ℕ). (step_at start g a.0 ≡ 0) ⊎ (get_or (map (step_at start g) l ++ pad) 1 0 ≤ step_at start g a.0)) (sym s.1) r in
-      subst (λ (x : ℕ). (x ≡ 0) ⊎ (get_or (map (step_at start g) ds ++ pad) 1 0 ≤ x)) a.3 q
+      let q : (step_at start g a.0 ≡ 0) ⊎ ((get_or (map make ds ++ pad) 1 no_step).value ≤ step_at start g a.0) =
+      subst (λ (l : List ℕ). (step_at start g a.0 ≡ 0) ⊎ ((get_or (map make l ++ pad) 1 no_step).value ≤ step_at start g a.0)) (sym s.1) r in
+      subst (λ (x : ℕ). (x ≡ 0) ⊎ ((get_or (map make ds ++ pad) 1 no_step).value ≤ x)) a.3 q

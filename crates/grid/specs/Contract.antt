@@ -8,7 +8,7 @@ use Rattle.grid.specs.Steps.{step_at, steps_in}
 
 -- `steps_of`
 pub record StepsOf (start g : ℕ) (r : Steps) : Type 0 where
-  -- the steps of the grid, equal ones once, and zeros behind them
+  -- the steps of the grid, equal ones once, and entries of zeros behind them
   pub is : r ≡ steps_in start g
 
 -- `extras_at`

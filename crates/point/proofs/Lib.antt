@@ -1,3 +1,4 @@
 pub mod Unique
 pub mod Walks
+pub mod Turns
 pub mod Nodes

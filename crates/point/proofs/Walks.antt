@@ -15,8 +15,7 @@ use Rattle.curves.specs.declared.Curve.{Curve}
 use Rattle.curves.specs.Curve.{Shape, neutral, server, joined}
 use Rattle.curves.specs.Held.{Holds}
 use Rattle.tandem.specs.declared.Server.{Server}
-use Rattle.tandem.specs.declared.Flow.{Flow}
-use Rattle.tree.specs.Plan.{Node, Top, alone, over, top_of, server_curve, piece_on, along, node_curve}
+use Rattle.tree.specs.Plan.{Top, alone, over, server_curve, piece_on, along}
 use Rattle.tree.proofs.NodeLaws.{along_alone, along_over, along_end}
 
 -- c is part of d: no larger offset, no more stages
@@ -75,11 +74,9 @@ pub record Walking (ss : List Server) (top : ℕ → Top) (whole : Shape) (e : �
   pub same : along ss top turns shape j e ≡ whole
 
 -- the walk begins with the curve of no server
-pub walk_begins : (ss : List Server) (g : Flow) (gs : List Flow) (ns : List Node) (c : Curve) → Holds c neutral → length c.stages ≡ 16
-    → 1 ≤ g.first → g.last ≤ length ss
-    → Walking ss (top_of gs ns) (node_curve ss g gs ns) g.last c g.first
-unfolding node_curve
-walk_begins ss g gs ns c h f p q =
+pub walk_begins : (ss : List Server) (top : ℕ → Top) (a e : ℕ) (c : Curve) → Holds c neutral → length c.stages ≡ 16 → 1 ≤ a → e ≤ length ss
+    → Walking ss top (along ss top (length ss) neutral a e) e c a
+walk_begins ss top a e c h f p q =
     record { turns = length ss; shape = neutral; holds = h; full = f; low = p; enough = omega arith; same = refl }
 
 module _ (ss : List Server) (top : ℕ → Top) (whole : Shape) (e : ℕ) (c : Curve) (j : ℕ) where

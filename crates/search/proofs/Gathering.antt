@@ -5,8 +5,9 @@ use mathlib.Core.List.{List, [], ◌∷◌, ◌++◌, map, append_assoc, append-
 use Prim.Native.Nat.{ℕ, suc, ◌+◌, ◌≤◌, ◌<◌}
 use native.Mathlib.Numerals.{add-one}
 use native.Mathlib.Omega.{arith}
-use lib.ListN.{length, take, drop, set, length-set, length-map, drop_of_length-le}
-use lib.Seq.{take-suc-set}
+use lib.ListN.{length, take, drop, get_or, set, length-set, length-map, drop_of_length-le}
+use lib.Seq.{take-suc-set, drop-cons}
+use Rattle.tandem.specs.Tandem.{no_server}
 use Rattle.curves.specs.declared.Stage.{Stage}
 use Rattle.curves.specs.Held.{Holds}
 use Rattle.tandem.specs.declared.Server.{Server}
@@ -27,7 +28,14 @@ pub record Gathering (ss : List Server) (stages : List Stage) (offset j : ℕ) :
 pub gathering_begins : (ss : List Server) (stages : List Stage) → length stages ≡ 16 → Gathering ss stages 0 0
 gathering_begins ss stages h = record { full = h; slots = omega arith; served = refl }
 
-module _ (ss : List Server) (stages : List Stage) (offset j : ℕ) (v : Server) (e : drop j ss ≡ v ∷ drop (suc j) ss) (g : Gathering ss stages offset j) where
+module _ (ss : List Server) (stages : List Stage) (offset j : ℕ) (h : j < length ss) (g : Gathering ss stages offset j) where
+  -- the next server
+  abbrev v : Server
+  v = get_or ss j no_server
+
+  e : drop j ss ≡ v ∷ drop (suc j) ss
+  e = drop-cons ss j no_server h
+
   -- the next server's slots are among those that are left
   next_slots : offset + (v.latency + sum_of (latencies_of (drop (suc j) ss))) ≡ sum_of (latencies_of ss)
   unfolding sum_of

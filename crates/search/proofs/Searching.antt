@@ -8,7 +8,7 @@ use Prim.Native.Nat.{ℕ, zero, suc, ◌+◌, ◌-◌, ◌*◌, ◌/◌, ◌%◌
 use native.Mathlib.Nat.{mod-lt}
 use native.Mathlib.Omega.{arith}
 use lib.ListN.{length, take, drop, get_or, replicate, length-replicate, length-take, length-drop, length-map}
-use lib.Seq.{take_all, take_at, get_or-take, length-take-le}
+use lib.Seq.{take_all, take_at}
 use Rattle.tandem.specs.Tandem.{no_flow}
 use Rattle.curves.specs.declared.Curve.{Curve}
 use Rattle.curves.specs.Curve.{Shape, Rates}
@@ -16,9 +16,7 @@ use Rattle.curves.specs.Held.{Holds}
 use Rattle.tandem.specs.declared.Server.{Server}
 use Rattle.tandem.specs.declared.Flow.{Flow}
 use Rattle.row.specs.declared.Row.{Row}
-use Rattle.tandem.specs.OfSheet.{listed}
 use Rattle.row.specs.RowFor.{padded}
-use Rattle.tandem.proofs.OfSheetLaws.{listed_at}
 use Rattle.tree.specs.Plan.{Node, plan}
 use Rattle.tree.specs.Planned.{answer_of}
 use Rattle.tree.specs.Fine.{AllFine}
@@ -35,23 +33,22 @@ use Rattle.keys.specs.Numbers.{point_at, first_digits}
 use Rattle.keys.proofs.NumberLaws.{first_digits_stand}
 use Rattle.keys.specs.Choose.{keys_under}
 use Rattle.keys.specs.Left.{row_curve, left_of, bursts_on}
-use Rattle.keys.specs.State.{State, state, climb, whole, want_of, Moving, Small}
+use Rattle.keys.specs.State.{State, state, climb, whole, Moving, Small}
 use Rattle.keys.proofs.StateLaws.{rates_left}
 use Rattle.keys.proofs.FoundLaws.{found_by_least, found_first}
 use Rattle.keys.proofs.UseLaws.{point_length, point_zero, point_fine, small_row}
 use Rattle.grid.specs.declared.Steps.{Steps}
-use Rattle.grid.specs.Steps.{step_at, steps_in, digits_of}
+use Rattle.grid.specs.Steps.{step_at, no_step, steps_in, digits_of}
 use Rattle.grid.proofs.StepsLaws.{steps_le, digits_held, values_low, second_step}
-use Rattle.tandem.specs.Lent.{lent_flow, flows_in}
 use Rattle.climb.specs.declared.Branch.{Branch}
-use Rattle.climb.specs.Branch.{state_of, watched_in, groups_in}
+use Rattle.climb.specs.Branch.{state_of}
 use Rattle.climb.specs.Choosing.{Stepped, least_key, Ready}
 use Rattle.point.specs.declared.Point.{Point}
 use Rattle.point.specs.Point.{servers_of, flows_of, answer_at, extras_of, point_of}
+use Rattle.search.proofs.Wanting.{flows_long}
 use Rattle.search.specs.declared.Found.{Found}
 use Rattle.search.specs.Point.{searched}
 use Rattle.search.specs.Searchable.{start_of, Searchable, found_in}
-use Rattle.tandem.proofs.LentLaws.{listed_take}
 
 take_zeros : (n m : ℕ) → n ≤ m → take {A = ℕ} n (replicate m 0) ≡ replicate n 0
 take_zeros zero m p = refl
@@ -79,10 +76,6 @@ positive (suc m) h = omega arith
 first_rest : (l : List Flow) → 0 < length l → l ≡ get_or l 0 no_flow ∷ drop 1 l
 first_rest [] h = absurd (omega arith)
 first_rest (x ∷ l) h = refl
-
-behind_first : (l : List Flow) (i : ℕ) → get_or l (suc i) no_flow ≡ get_or (drop 1 l) i no_flow
-behind_first [] i = refl
-behind_first (x ∷ l) i = refl
 
 module _ (row : Row) (ok : Searchable row) where
   abbrev ss : List Server
@@ -121,6 +114,11 @@ module _ (row : Row) (ok : Searchable row) where
   extras_are : (r : ℕ) → extras_of row (padded 32 0 (point_at (step_at (start_of row) g) g n r)) ≡ point_at (step_at (start_of row) g) g n r
   extras_are r = take_at (point_at (step_at (start_of row) g) g n r) _ n (point_length (step_at (start_of row) g) g n r)
 
+  -- those that are made of the delay at the start's point
+  pub extras_made : (p : Point) → p ≡ point_of (answer_at row (extras_of row (replicate 32 0))) → (r : ℕ) (es : List ℕ)
+      → es ≡ padded 32 0 (point_at (step_at p.delay g) g n r) → es ≡ padded 32 0 (point_at (step_at (start_of row) g) g n r)
+  extras_made p e r es h = h ∙ ap (λ (x : ℕ). padded 32 0 (point_at (step_at x g) g n r)) (first_delay p e)
+
   pub point_fine_at : (r : ℕ) → AllFine (plan ss fs (0 ∷ extras_of row (padded 32 0 (point_at (step_at (start_of row) g) g n r)))) fs
   point_fine_at r =
       rw (extras_are r)
@@ -150,7 +148,7 @@ module _ (row : Row) (ok : Searchable row) where
   found_number r p k e b h =
       found_by r p (point_at (step_at (start_of row) g) g n k) (e ∙ ap (λ (es : List ℕ). point_of (answer_at row es)) (extras_are k)) b h
 
-  -- the number of the best point: the row's flows in a list of numbers, its servers in a curve, and what is wanted of them
+  -- the number of the best point: the row's servers in a curve, and what is wanted of them
 
   pub light : Each (λ f. f.burst + f.rate < 2 ^ 40) fs
   light = fine_light (plan ss fs (0 ∷ replicate n 0)) fs (plan_length ss fs (0 ∷ replicate n 0)) first_works.fine
@@ -158,15 +156,21 @@ module _ (row : Row) (ok : Searchable row) where
   split : fs ≡ w ∷ gs
   split = first_rest fs first_works.some
 
-  module _ (mode : row.mode ≡ 0) (full : length row.groups ≡ 32) (steps : Steps) (are : steps ≡ steps_in (start_of row) g)
+  count_is : length fs ≡ row.count
+  count_is = flows_long row ok.shaped
+
+  groups_are : length gs ≡ n
+  groups_are = omega (arith, length-drop 1 fs, count_is)
+
+  -- the row has its servers, since the watched flow's path is all of them
+  pub servers_are : length ss ≡ row.size
+  servers_are =
+      let p = subst (Each (Placed (length ss))) split first_works.placed in
+      omega (arith, ok.leaves, p.0.leaves, length-take row.size row.servers)
+
+  module _ (mode : row.mode ≡ 0) (steps : Steps) (are : steps ≡ steps_in (start_of row) g)
       (c : Curve) (holds : Holds c (row_curve ss))
     where
-      count_is : length fs ≡ row.count
-      count_is = length-take-le row.count row.groups (omega (arith, full, ok.shaped.few))
-
-      groups_are : length gs ≡ n
-      groups_are = omega (arith, length-drop 1 fs, count_is)
-
       abbrev at : List ℕ → Answer
       at = answer_of ss (w ∷ gs)
 
@@ -184,9 +188,6 @@ module _ (row : Row) (ok : Searchable row) where
 
       placed : Each (Placed (length ss)) (w ∷ gs)
       placed = subst (Each (Placed (length ss))) split first_works.placed
-
-      servers_are : length ss ≡ row.size
-      servers_are = omega (arith, ok.leaves, placed.0.leaves, length-take row.size row.servers)
 
       ends : w.last ≡ length ss
       ends = ok.leaves ∙ sym servers_are
@@ -206,16 +207,16 @@ module _ (row : Row) (ok : Searchable row) where
       unfolding steps_in
       steps_grid = ap (λ (x : Steps). x.grid) are
 
-      pub second_small : get_or steps.values 1 0 < 2 ^ 32
-      second_small = omega (arith, ap (λ (x : Steps). get_or x.values 1 0) are, values_low (start_of row) g 1, ok.near)
+      pub second_small : (get_or steps.steps 1 no_step).value < 2 ^ 32
+      second_small = omega (arith, ap (λ (x : Steps). (get_or x.steps 1 no_step).value) are, values_low (start_of row) g 1, ok.near)
 
       -- no point is better than the first
-      pub first_best : steps.start ≤ c.offset + get_or steps.values 1 0 → (searched row).best ≡ answer_at row (point_at (step_at (start_of row) g) g n 0)
+      pub first_best : steps.start ≤ c.offset + (get_or steps.steps 1 no_step).value → (searched row).best ≡ answer_at row (point_at (step_at (start_of row) g) g n 0)
       first_best h =
-          let v = get_or (steps_in (start_of row) g).values 1 0 in
+          let v = (get_or (steps_in (start_of row) g).steps 1 no_step).value in
           let z = subst (λ (s : ℕ). (d : ℕ) → d < g → (step_at s g d ≡ 0) ⊎ (v ≤ step_at s g d)) start_is (second_step (start_of row) g ok.coarse) in
           let k : (at (replicate (length gs) 0)).delay ≤ sum_of (latencies_of ss) + v =
-          omega (arith, h, start_is, steps_start, offset_is, ap (λ (x : Steps). get_or x.values 1 0) are) in
+          omega (arith, h, start_is, steps_start, offset_is, ap (λ (x : Steps). (get_or x.steps 1 no_step).value) are) in
           searched_is ∙ found_first ss w gs g (omega (arith, ok.coarse)) ordered placed ok.enters ends v z k
           ∙ ap (λ (m : ℕ). at (replicate m 0)) groups_are ∙ ap (λ (l : List Flow). answer_of ss l (replicate n 0)) (sym split)
           ∙ ap (answer_at row) (sym (point_zero (start_of row) g n))
@@ -238,88 +239,55 @@ module _ (row : Row) (ok : Searchable row) where
       unfolding row_curve
       rates_length = length-map ss (λ (s : Server). record { burst = 0; rate = s.rate })
 
-      module _ (xs : List ℕ) (long : length xs ≡ 128) (flows : flows_in xs row.count ≡ fs) where
-        -- the list as it is lent
-        abbrev lent : List ℕ
-        lent = take (4 * row.count) xs
+      -- the branch with which the recursion begins
+      abbrev begin : Branch
+      begin = record { curve = c; number = 0; weight = 1 }
 
-        few : row.count ≤ 32
-        few = ok.shaped.few
+      begin_is : state_of begin ≡ whole ss
+      begin_is = ap (λ (x : Shape). state x 0 1) holds.shape
 
-        pub lent_long : length lent ≡ 4 * row.count
-        lent_long = length-take-le (4 * row.count) xs (omega (arith, few, long))
+      -- THE LAW of the search: the key's number is that of document 01's first best point
+      pub number_best : (key : ℕ) → key ≡ least_key fs steps n begin (steps.start * 65536)
+          → (searched row).best ≡ answer_at row (point_at (step_at (start_of row) g) g n (key % 65536))
+      unfolding least_key
+      number_best key e =
+          let s = (at (replicate (length gs) 0)).delay in
+          let ds = first_digits (step_at s g) g in
+          let d : digits_of steps ≡ first_digits (step_at (start_of row) g) g = ap digits_of are ∙ digits_held (start_of row) g in
+          let k : key ≡ least_of (s * 65536) (keys_under (climb 65536 w gs (step_at s g) g) ds (length gs) (whole ss)) =
+          e
+          ∙ ap (λ (x : State). least_of (steps.start * 65536) (keys_under (climb 65536 w gs (step_at steps.start steps.grid) steps.grid) (digits_of steps) n x)) begin_is
+          ∙ ap (λ (h : ℕ). least_of (steps.start * 65536) (keys_under (climb 65536 w gs (step_at steps.start h) h) (digits_of steps) n (whole ss))) steps_grid
+          ∙ ap (λ (l : List ℕ). least_of (steps.start * 65536) (keys_under (climb 65536 w gs (step_at steps.start g) g) l n (whole ss))) d
+          ∙ ap (λ (x : ℕ). least_of (x * 65536) (keys_under (climb 65536 w gs (step_at x g) g) (first_digits (step_at (start_of row) g) g) n (whole ss))) steps_start
+          ∙ ap (λ (x : ℕ). least_of (x * 65536) (keys_under (climb 65536 w gs (step_at x g) g) (first_digits (step_at x g) g) n (whole ss))) start_is
+          ∙ ap (λ (m : ℕ). least_of (s * 65536) (keys_under (climb 65536 w gs (step_at s g) g) ds m (whole ss))) (sym groups_are) in
+          let p : g ^ length gs ≤ 65536 = subst (λ (m : ℕ). g ^ m ≤ 65536) (sym groups_are) (ok.points mode) in
+          searched_is ∙ (found_by_least ss w gs g (omega (arith, ok.coarse)) ordered placed ok.enters ends 65536 ds key p (first_digits_stand (step_at s g) g) k).0
+          ∙ ap (λ (m : ℕ). at (point_at (step_at s g) g m (key % 65536))) groups_are
+          ∙ ap (λ (x : ℕ). at (point_at (step_at x g) g n (key % 65536))) (sym start_is)
+          ∙ ap (λ (l : List Flow). answer_of ss l (point_at (step_at (start_of row) g) g n (key % 65536))) (sym split)
 
-        lent_at : (k : ℕ) → k < row.count → lent_flow lent k ≡ get_or fs k no_flow
-        lent_at k h =
-            let t : (j : ℕ) → j < 4 * row.count → get_or lent j 0 ≡ get_or xs j 0 = λ j l. get_or-take (4 * row.count) xs j 0 l in
-            rw (t (4 * k) (omega arith), t (4 * k + 1) (omega arith), t (4 * k + 2) (omega arith), t (4 * k + 3) (omega arith))
-            (sym (listed_at row.count (lent_flow xs) k no_flow h) ∙ ap (λ (l : List Flow). get_or l k no_flow) flows)
-
-        watched_is : watched_in lent ≡ w
-        watched_is = lent_at 0 (omega (arith, ok.shaped.some))
-
-        groups_in_lem : groups_in lent ≡ gs
-        groups_in_lem =
-            let m : length lent / 4 - 1 ≡ n = omega (arith, lent_long) in
-            ap (λ (k : ℕ). listed k (λ i. lent_flow lent (suc i))) m
-            ∙ listed_take n (λ i. lent_flow lent (suc i)) gs no_flow (omega (arith, groups_are)) (λ i h. lent_at (suc i) (omega arith) ∙ behind_first fs i)
-            ∙ take_all n gs (omega (arith, groups_are))
-
-        -- the branch with which the recursion begins
-        abbrev begin : Branch
-        begin = record { curve = c; number = 0; weight = 1 }
-
-        begin_is : state_of begin ≡ whole ss
-        begin_is = ap (λ (x : Shape). state x 0 1) holds.shape
-
-        -- THE LAW of the search: the key's number is that of document 01's first best point
-        pub number_best : (key : ℕ) → key ≡ least_key lent steps n begin (steps.start * 65536)
-            → (searched row).best ≡ answer_at row (point_at (step_at (start_of row) g) g n (key % 65536))
-        unfolding least_key
-        number_best key e =
-            let s = (at (replicate (length gs) 0)).delay in
-            let ds = first_digits (step_at s g) g in
-            let d : digits_of steps ≡ first_digits (step_at (start_of row) g) g = ap digits_of are ∙ digits_held (start_of row) g in
-            let k : key ≡ least_of (s * 65536) (keys_under (climb 65536 w gs (step_at s g) g) ds (length gs) (whole ss)) =
-            e
-            ∙ ap (λ (x : State). least_of (steps.start * 65536) (keys_under (climb 65536 (watched_in lent) (groups_in lent) (step_at steps.start steps.grid) steps.grid) (digits_of steps) n x)) begin_is
-            ∙ ap (λ (f : Flow). least_of (steps.start * 65536) (keys_under (climb 65536 f (groups_in lent) (step_at steps.start steps.grid) steps.grid) (digits_of steps) n (whole ss))) watched_is
-            ∙ ap (λ (l : List Flow). least_of (steps.start * 65536) (keys_under (climb 65536 w l (step_at steps.start steps.grid) steps.grid) (digits_of steps) n (whole ss))) groups_in_lem
-            ∙ ap (λ (h : ℕ). least_of (steps.start * 65536) (keys_under (climb 65536 w gs (step_at steps.start h) h) (digits_of steps) n (whole ss))) steps_grid
-            ∙ ap (λ (l : List ℕ). least_of (steps.start * 65536) (keys_under (climb 65536 w gs (step_at steps.start g) g) l n (whole ss))) d
-            ∙ ap (λ (x : ℕ). least_of (x * 65536) (keys_under (climb 65536 w gs (step_at x g) g) (first_digits (step_at (start_of row) g) g) n (whole ss))) steps_start
-            ∙ ap (λ (x : ℕ). least_of (x * 65536) (keys_under (climb 65536 w gs (step_at x g) g) (first_digits (step_at x g) g) n (whole ss))) start_is
-            ∙ ap (λ (m : ℕ). least_of (s * 65536) (keys_under (climb 65536 w gs (step_at s g) g) ds m (whole ss))) (sym groups_are) in
-            let p : g ^ length gs ≤ 65536 = subst (λ (m : ℕ). g ^ m ≤ 65536) (sym groups_are) (ok.points mode) in
-            searched_is ∙ (found_by_least ss w gs g (omega (arith, ok.coarse)) ordered placed ok.enters ends 65536 ds key p (first_digits_stand (step_at s g) g) k).0
-            ∙ ap (λ (m : ℕ). at (point_at (step_at s g) g m (key % 65536))) groups_are
-            ∙ ap (λ (x : ℕ). at (point_at (step_at x g) g n (key % 65536))) (sym start_is)
-            ∙ ap (λ (l : List Flow). answer_of ss l (point_at (step_at (start_of row) g) g n (key % 65536))) (sym split)
-
-        -- what the recursion asks of the whole row
-        pub ready_first : (wants : List ℕ) → ((j : ℕ) → j < row.size → get_or wants j 0 ≡ bursts_on gs j + (w.burst + w.rate))
-            → Ready lent steps n begin wants (steps.start * 65536)
-        ready_first wants want =
-            let l = subst (Each (λ f. f.burst + f.rate < 2 ^ 40)) split light in
-            let size : c.count ≡ length ss = holds.count ∙ rates_length in
-            let all : take n gs ≡ gs = take_all n gs (omega (arith, groups_are)) in
-            record {
-              stepped = stepped;
-              reached = omega (arith, lent_long, ok.shaped.some);
-              few = omega (arith, lent_long, few);
-              size = omega (arith, size, servers_are, ok.shaped.short);
-              full = ap (λ (x : Shape). length x.stages) holds.shape ∙ sym holds.count;
-              placed = subst (λ (x : List Flow). Each (Placed c.count) x) (sym groups_in_lem) (subst (λ (m : ℕ). Each (Placed m) gs) (sym size) placed.1);
-              light = subst (Each (λ f. f.burst < 2 ^ 40)) (sym groups_in_lem) (each_map (λ f. f.burst + f.rate < 2 ^ 40) (λ f. f.burst < 2 ^ 40) gs (λ f h. omega (arith, h)) l.1);
-              watched = subst (λ (f : Flow). f.burst + f.rate < 2 ^ 40) (sym watched_is) l.0;
-              moving = subst (λ (x : List Flow). Moving x n (state_of begin)) (sym groups_in_lem)
-                  (subst (Moving gs n) (sym begin_is) (record { few = omega (arith, groups_are); moves = subst (λ (x : List Flow). Rates 1 (left_of (row_curve ss) x []).stages) (sym all) moves }));
-              small = subst (Small (2 ^ 20)) (sym holds.shape) (small_row (2 ^ 20) ss ok.slow);
-              soon = offset_small;
-              wanted = λ j h. want j (omega (arith, h, size, servers_are)) ∙ ap (λ (x : List Flow). bursts_on x j + (w.burst + w.rate)) (sym all)
-                  ∙ ap (λ (x : List Flow). want_of x (w.burst + w.rate) n j) (sym groups_in_lem)
-                  ∙ ap (λ (f : Flow). want_of (groups_in lent) (f.burst + f.rate) n j) (sym watched_is);
-              bounded = omega arith;
-              numbered = omega arith;
-              weighed = subst (λ (x : ℕ). 1 * x ^ n ≤ 65536) (sym steps_grid) (omega (arith, ok.points mode));
-            }
+      -- what the recursion asks of the whole row
+      pub ready_first : (wants : List ℕ) → ((j : ℕ) → j < row.size → get_or wants j 0 ≡ bursts_on gs j + (w.burst + w.rate))
+          → Ready fs steps n begin wants (steps.start * 65536)
+      ready_first wants want =
+          let l = subst (Each (λ f. f.burst + f.rate < 2 ^ 40)) split light in
+          let size : c.count ≡ length ss = holds.count ∙ rates_length in
+          let all : take n gs ≡ gs = take_all n gs (omega (arith, groups_are)) in
+          record {
+            stepped = stepped;
+            reached = omega (arith, count_is, ok.shaped.some);
+            size = omega (arith, size, servers_are, ok.shaped.short);
+            full = ap (λ (x : Shape). length x.stages) holds.shape ∙ sym holds.count;
+            placed = subst (λ (m : ℕ). Each (Placed m) gs) (sym size) placed.1;
+            light = each_map (λ f. f.burst + f.rate < 2 ^ 40) (λ f. f.burst < 2 ^ 40) gs (λ f h. omega (arith, h)) l.1;
+            watched = l.0;
+            moving = subst (Moving gs n) (sym begin_is) (record { few = omega (arith, groups_are); moves = subst (λ (x : List Flow). Rates 1 (left_of (row_curve ss) x []).stages) (sym all) moves });
+            small = subst (Small (2 ^ 20)) (sym holds.shape) (small_row (2 ^ 20) ss ok.slow);
+            soon = offset_small;
+            wanted = λ j h. want j (omega (arith, h, size, servers_are)) ∙ ap (λ (x : List Flow). bursts_on x j + (w.burst + w.rate)) (sym all);
+            bounded = omega arith;
+            numbered = omega arith;
+            weighed = subst (λ (x : ℕ). 1 * x ^ n ≤ 65536) (sym steps_grid) (omega (arith, ok.points mode));
+          }

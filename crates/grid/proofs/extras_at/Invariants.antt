@@ -5,8 +5,4 @@ use Rattle.grid.proofs.Decoding.{Decoding}
 use Rattle.grid.proofs.extras_at.Given as goal
 
 abbrev pub invariant-loop-k : goal.invariant-loop-k
-invariant-loop-k l = Decoding (step_at l.start l.g) l.g l.groups l.number l.extra l.rest l.k
-
--- the groups that are left
-abbrev pub decreases-loop-k : goal.decreases-loop-k
-decreases-loop-k l = l.k
+invariant-loop-k l = Decoding (step_at l.start l.g) l.g l.groups l.number l.extras l.rest l.k

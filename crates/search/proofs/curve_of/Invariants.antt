@@ -1,13 +1,8 @@
 -- The first j servers are in the curve, each as a stage, and their latencies in its offset (`Gathering`).
 -- Assumes nothing.
-use Prim.Native.Nat.{◌≤◌, ◌-◌}
 use Rattle.point.specs.Point.{servers_of}
 use Rattle.search.proofs.Gathering.{Gathering}
 use Rattle.search.proofs.curve_of.Given as goal
 
 abbrev pub invariant-loop-j : goal.invariant-loop-j
-invariant-loop-j l = (l.j ≤ l.n) × Gathering (servers_of l.row) l.stages l.offset l.j
-
--- the servers that are left
-abbrev pub decreases-loop-j : goal.decreases-loop-j
-decreases-loop-j l = l.n - l.j
+invariant-loop-j l = Gathering (servers_of l.row) l.stages l.offset l.j

@@ -9,18 +9,14 @@ use Rattle.curves.proofs.HeldLaws.{live_rates}
 use Rattle.curves.proofs.PartLaws.{all_whole, lag_whole, lag_le}
 use Rattle.curves.proofs.Curve.least_wait.Goals as goal
 
-pub lag-requires : goal.lag-requires
-lag-requires c =
-    (omega arith, c.requires.0.few, all_whole Live c.args.self c.requires.0.live, c.requires.1)
-
 pub overflow_add-result : goal.overflow_add-result
 overflow_add-result c =
-    let a = c.args.self in
+    let a = c.args.self.now in
     let l = lag_le (shape_of a) 0 a.count c.args.sigma (live_rates (slice 0 a.count (shape_of a).stages) (all_whole Live a c.requires.0.live)) in
     omega (arith, l, c.lag.ensures.is, c.requires.0.near, c.requires.1)
 
 pub returns : goal.returns
 returns c = record {
   is =
-      ap (λ (n : ℕ). c.args.self.offset + n) c.lag.ensures.is ∙ lag_whole c.args.self c.args.sigma;
+      ap (λ (n : ℕ). c.args.self.now.offset + n) c.lag.ensures.is ∙ lag_whole c.args.self.now c.args.sigma;
 }

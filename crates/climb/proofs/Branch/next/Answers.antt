@@ -2,8 +2,8 @@
 -- Assumes nothing.
 use mathlib.Core.Path.{refl}
 use Rattle.keys.specs.Left.{left_by}
-use Rattle.climb.proofs.next.Goals as goal
+use Rattle.climb.proofs.Branch.next.Goals as goal
 
 pub returns : goal.returns
 unfolding left_by
-returns c = (c.left-left.ensures.holds, refl, refl)
+returns c = (c.left-curve.ensures.holds, refl, refl)
