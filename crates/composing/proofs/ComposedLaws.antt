@@ -1,6 +1,6 @@
 -- How long what is printed is; and THE LAW that `compose` makes of what `show` prints the very sheet that was shown.
 -- Assumes nothing.
-use Rattle.std.specs.Prelude.{ℕ, ◌+◌, ◌≤◌, ◌≡◌, refl, Bool, true, false, cond, List, ◌++◌, ltb, eqb, length, get_or}
+use Rattle.std.specs.Prelude.{ℕ, ◌+◌, ◌≤◌, ◌≡◌, refl, Bool, true, false, cond, List, ◌++◌, Option, Some, None, Result, ltb, eqb, length, get_or}
 use Rattle.std.proofs.Common.{ap, arith, length-append, le-ltb}
 use Rattle.numbers.proofs.SevenLaws.{Bytes}
 use Rattle.fields.specs.declared.Why.{Why}
@@ -12,7 +12,7 @@ use Rattle.sheet.proofs.WalkLaws.{list_whole}
 use Rattle.sheet.proofs.WordLaws.{valid_words}
 use Rattle.sheet.proofs.SizeLaws.{valid_bytes}
 use Rattle.sheet.proofs.TripLaws.{write_back, read_listed}
-use Rattle.text.specs.declared.Printed.{Printed}
+use Rattle.text.specs.declared.Refused.{Refused}
 use Rattle.text.specs.Lines.{field, bytes_of}
 use Rattle.text.proofs.LinesLaws.{field_short}
 use Rattle.scribe.specs.declared.Slip.{Slip}
@@ -41,12 +41,10 @@ pub slip_length : (slip : Slip) (line : ℕ) → length (slip_line slip line) �
 unfolding slip_line
 slip_length slip line = length-append (field line_word line) (slip_word slip)
 
-pub place_short : (line d : ℕ) → length (place_text line d) ≤ 54
+pub place_short : (line : Option ℕ) (d : ℕ) → length (place_text line d) ≤ 54
 unfolding place_text
-place_short line d =
-    cond_short (ltb 0 line) (field line_word line ++ field place_word d) (field number_word d) 54
-    (omega (arith, length-append (field line_word line) (field place_word d), field_short line_word line, field_short place_word d))
-    (omega (arith, field_short number_word d))
+place_short (Some line) d = omega (arith, length-append (field line_word line) (field place_word d), field_short line_word line, field_short place_word d)
+place_short None d = omega (arith, field_short number_word d)
 
 outside_short : (xs : List ℕ) (d : ℕ) → length (outside_text xs d) ≤ 61
 unfolding outside_text
@@ -112,5 +110,5 @@ shown_composed s xs bytes e =
     (ap made (write_back s xs bytes e))
 
 -- so a page has room for what `compose` gives to print
-pub compose_fits : {text before after : List ℕ} {r : Printed} → Compose text before r after → bytes_of r ≤ compose_page
+pub compose_fits : {text before after : List ℕ} {r : Result ℕ Refused} → Compose text before r after → bytes_of r ≤ compose_page
 compose_fits {text} h = omega (arith, ap bytes_of h.gives, composed_bytes_lem (composed text), composed_short text)

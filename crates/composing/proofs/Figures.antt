@@ -1,6 +1,6 @@
 -- P7 shown and composed, which meets every hypothesis of `shown_composed`, and the line of a text whose edition is wrong, computed.
 -- Assumes nothing.
-use Rattle.std.specs.Prelude.{ℕ, zero, suc, ◌≡◌, refl, false, List, [], ◌∷◌, ◌++◌}
+use Rattle.std.specs.Prelude.{ℕ, zero, suc, ◌≡◌, refl, false, Ok, Err, List, [], ◌∷◌, ◌++◌}
 use Rattle.std.proofs.Common.{ap, inl, arith}
 use Rattle.numbers.specs.Seven.{number_at}
 use Rattle.numbers.proofs.SevenLaws.{Bytes}
@@ -9,7 +9,6 @@ use Rattle.fields.specs.declared.Rule.TheVariants.{Range}
 use Rattle.fields.specs.Rule.{rule_at, field_at, seen_after, allowed}
 use Rattle.fields.specs.Step.{step_on}
 use Rattle.sheet.specs.Sheet.{sheet_of, list_of}
-use Rattle.text.specs.declared.Printed.TheVariants.{Answer, Refusal}
 use Rattle.text.specs.Decimal.{decimal}
 use Rattle.text.specs.Lines.{field}
 use Rattle.scribe.specs.Text.{is_blank, is_digit, outside_by, longer_by, inside_by, turn_of, line_after, text_of}
@@ -61,10 +60,10 @@ unfolding composed text_of turn_of outside_by inside_by longer_by is_blank is_di
 second_wrong = refl
 
 -- a sheet is an answer of so many bytes, and what is wrong with a text is none
-pub p7_printed : composed_printed (composed (shown P7)) ≡ Answer 13
+pub p7_printed : composed_printed (composed (shown P7)) ≡ Ok 13
 p7_printed = ap composed_printed p7_composed
 
-pub second_printed : composed_printed (composed second) ≡ Refusal 46
+pub second_printed : composed_printed (composed second) ≡ Err (record { length = 46 })
 second_printed = ap composed_printed second_wrong
 
 -- it meets the hypotheses of the law of what is told

@@ -1,7 +1,7 @@
 -- What `compose` makes of a text: the bytes of the sheet whose numbers it says, or one line that says what is wrong and where. Lines are counted
 -- from 1, and numbers from 0, as the writer's refusals count them.
 -- Assumes nothing.
-use Rattle.std.specs.Prelude.{ℕ, ◌-◌, cond, List, [], ◌∷◌, ◌++◌, ltb, eqb, length, get_or}
+use Rattle.std.specs.Prelude.{ℕ, ◌-◌, cond, List, [], ◌∷◌, ◌++◌, Option, Some, None, Result, Ok, Err, ltb, eqb, length, get_or}
 use Rattle.fields.specs.declared.User.TheVariants.{Writer}
 use Rattle.fields.specs.declared.Rule.{Rule}
 use Rattle.fields.specs.declared.Why.{Why}
@@ -9,8 +9,7 @@ use Rattle.fields.specs.declared.Why.TheVariants.{Ends, Left}
 use Rattle.fields.specs.Refusal.{refusal}
 use Rattle.fields.specs.Rule.{field_at, field_rule}
 use Rattle.sheet.specs.Sheet.{Found, fail, these, list_of, encode_all}
-use Rattle.text.specs.declared.Printed.{Printed}
-use Rattle.text.specs.declared.Printed.TheVariants.{Answer, Refusal}
+use Rattle.text.specs.declared.Refused.{Refused}
 use Rattle.text.specs.Lines.{line_end, field}
 use Rattle.scribe.specs.declared.Slip.{Slip}
 use Rattle.scribe.specs.declared.Slip.TheVariants.{Word, Large, Many}
@@ -74,17 +73,18 @@ slip_word Many = many_slip
 unfoldable pub slip_line : Slip → ℕ → List ℕ
 slip_line slip line = field line_word line ++ slip_word slip
 
--- the line of number d of a text: that of the first number for which a list of d has no room; 0 where there is none
-abbrev pub line_in : scribe.Said → ℕ
-line_in (scribe.these xs) = 0
-line_in (scribe.wrong xs slip line) = line
+-- the line of number d of a text: that of the first number for which a list of d has no room, if there is one
+abbrev pub line_in : scribe.Said → Option ℕ
+line_in (scribe.these xs) = None
+line_in (scribe.wrong xs slip line) = Some line
 
-unfoldable pub line_of : List ℕ → ℕ → ℕ
+unfoldable pub line_of : List ℕ → ℕ → Option ℕ
 line_of text d = line_in (scribe.text_of d text)
 
 -- where a number stands: `line 4: number 7`, or `number 7` where the text does not have it
-unfoldable pub place_text : ℕ → ℕ → List ℕ
-place_text line d = cond (ltb 0 line) (field line_word line ++ field place_word d) (field number_word d)
+unfoldable pub place_text : Option ℕ → ℕ → List ℕ
+place_text (Some line) d = field line_word line ++ field place_word d
+place_text None d = field number_word d
 
 -- the rule of the field at place d of a list, as the writer has it
 abbrev pub rule_in : List ℕ → ℕ → Rule
@@ -130,9 +130,9 @@ abbrev pub composed_bytes : Composed → List ℕ
 composed_bytes (made bytes) = bytes
 composed_bytes (wrong line) = line
 
-abbrev pub composed_printed : Composed → Printed
-composed_printed (made bytes) = Answer (length bytes)
-composed_printed (wrong line) = Refusal (length line)
+abbrev pub composed_printed : Composed → Result ℕ Refused
+composed_printed (made bytes) = Ok (length bytes)
+composed_printed (wrong line) = Err (record { length = length line })
 
 -- every sheet and every line has room on a page of so many bytes
 abbrev pub compose_page : ℕ

@@ -1,4 +1,4 @@
--- Each public function's contract leaves one possible result for every input; what `put_name_at` and `put_range` leave is `put_unique` of text.
+-- Each public function's contract leaves one possible result for every input; what `put_name_at` and `put_range` leave is `written_unique` of text.
 -- Assumes nothing.
 use Rattle.std.specs.Prelude.{ℕ, ◌≡◌, List}
 use Rattle.ground.proofs.ValueLaws.{one_value}

@@ -1,4 +1,4 @@
--- What each public function promises; what `put_name_at` and `put_range` do is `Put` of text.
+-- What each public function promises; what `put_name_at` and `put_range` do is `Written` of text.
 -- Assumes nothing.
 use Rattle.std.specs.Prelude.{ℕ, ◌≡◌, List, get_or}
 use Rattle.fields.specs.Rule.{field_at}

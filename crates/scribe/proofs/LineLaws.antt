@@ -1,15 +1,13 @@
 -- THE LAW of the line that is given: of a text that is wrong it is 1 and the count of the line ends before the byte at which the text goes wrong.
 -- With room for i numbers only, a text that says more than i goes wrong where number i, counted from 0, ends: so the line is that of number i.
 -- Assumes nothing.
-use Rattle.std.specs.Prelude.{ℕ, zero, suc, ◌+◌, ◌<◌, ◌≡◌, refl, Bool, true, false, cond, List, [], ◌∷◌, ◌++◌, length, take, eqb}
+use Rattle.std.specs.Prelude.{None, Some, Ok, Err, ℕ, zero, suc, ◌+◌, ◌<◌, ◌≡◌, refl, Bool, true, false, cond, List, [], ◌∷◌, ◌++◌, length, take, eqb}
 use Rattle.std.proofs.Common.{sym, ap, ◌∙◌, arith}
 use Rattle.scribe.specs.declared.Mark.{Mark}
 use Rattle.scribe.specs.declared.Mark.TheVariants.{Between}
 use Rattle.scribe.specs.declared.Slip.{Slip}
 use Rattle.scribe.specs.declared.Slip.TheVariants.{Many}
-use Rattle.scribe.specs.declared.Turn.{Turn}
-use Rattle.scribe.specs.declared.Turn.TheVariants as turn
-use Rattle.scribe.specs.Text.{Said, these, wrong, also, on_turn, turn_of, line_after, text_from, text_of}
+use Rattle.scribe.specs.Text.{Turn, Said, these, wrong, also, on_turn, turn_of, line_after, text_from, text_of}
 
 -- how many line ends a text has
 abbrev pub line_ends : List ℕ → ℕ
@@ -44,7 +42,7 @@ record BehindWrong (x : ℕ) (r : Said) (xs : List ℕ) (slip : Slip) (line : �
   all : xs ≡ x ∷ rest
 
 behind_wrong : (x : ℕ) (r : Said) (xs : List ℕ) (slip : Slip) (line : ℕ) → also x r ≡ wrong xs slip line → BehindWrong x r xs slip line
-behind_wrong x (these ys) xs slip line e = let z : ◌≡◌ {A = ℕ} 0 1 = cc in absurd (omega arith)
+behind_wrong x (these ys) xs slip line e = absurd (cc)
 behind_wrong x (wrong ys s l) xs slip line e = record { rest = ys; was = cc; all = cc }
 
 module _ (m : Mark) (first b : ℕ) (t : List ℕ) (slip : Slip) (line : ℕ) where
@@ -75,19 +73,19 @@ module _ (m : Mark) (first b : ℕ) (t : List ℕ) (slip : Slip) (line : ℕ) wh
       → ((room' : ℕ) (m' : Mark) (ys : List ℕ) → text_from room' (line_after first b) m' t ≡ wrong ys slip line
       → GoesWrong room' (line_after first b) m' t ys slip line)
       → GoesWrong room first m (b ∷ t) xs slip line
-  turn_wrong room (turn.On m') xs q e next = let g = next room m' xs e in past room xs g (rw q g.right) (rw q g.slips)
-  turn_wrong zero (turn.Number x m') xs q e next = at_once zero Many xs (rw q) e
-  turn_wrong (suc room) (turn.Number x m') xs q e next =
+  turn_wrong room (Ok (None, m')) xs q e next = let g = next room m' xs e in past room xs g (rw q g.right) (rw q g.slips)
+  turn_wrong zero (Ok (Some x, m')) xs q e next = at_once zero Many xs (rw q) e
+  turn_wrong (suc room) (Ok (Some x, m')) xs q e next =
       let w = behind_wrong x (text_from room (line_after first b) m' t) xs slip line e in
       let g = next room m' w.rest w.was in
       past (suc room) xs g
       (rw q (ap (also x) g.right ∙ ap these (sym w.all)))
       (rw q (ap (also x) g.slips ∙ ap (λ (l : List ℕ). wrong l slip line) (sym w.all)))
-  turn_wrong room (turn.Wrong s) xs q e next = at_once room s xs (rw q) e
+  turn_wrong room (Err s) xs q e next = at_once room s xs (rw q) e
 
 from_wrong : (t : List ℕ) (first room : ℕ) (m : Mark) (xs : List ℕ) (slip : Slip) (line : ℕ) → text_from room first m t ≡ wrong xs slip line
     → GoesWrong room first m t xs slip line
-from_wrong [] first room m xs slip line e = let z : ◌≡◌ {A = ℕ} 0 1 = cc in absurd (omega arith)
+from_wrong [] first room m xs slip line e = absurd (cc)
 from_wrong (b ∷ t) first room m xs slip line e =
     turn_wrong m first b t slip line room (turn_of m b) xs refl e (λ room' m' ys. from_wrong t (line_after first b) room' m' ys slip line)
 
@@ -114,7 +112,7 @@ record Behind (x : ℕ) (r : Said) (xs : List ℕ) : Type 0 where
 
 behind : (x : ℕ) (r : Said) (xs : List ℕ) → also x r ≡ these xs → Behind x r xs
 behind x (these ys) xs e = record { rest = ys; was = refl; all = cc }
-behind x (wrong ys s l) xs e = let z : ◌≡◌ {A = ℕ} 0 1 = cc in absurd (omega arith)
+behind x (wrong ys s l) xs e = absurd (cc)
 
 also_too_many : (x : ℕ) (said r : Said) (xs : List ℕ) (i : ℕ) (b : Behind x r xs) → OneTooMany said b.rest i
     → OneTooMany (also x said) xs (suc i)
@@ -123,13 +121,13 @@ also_too_many x said r xs i b o = record { line = o.line; is = rw (o.is, b.all) 
 turn_too_many : (u : Turn) (room i line : ℕ) (go : ℕ → Mark → Said) (xs : List ℕ) → on_turn u room line go ≡ these xs → i < length xs
     → ((room' i' : ℕ) (m : Mark) (ys : List ℕ) → go room' m ≡ these ys → i' < length ys → OneTooMany (go i' m) ys i')
     → OneTooMany (on_turn u i line go) xs i
-turn_too_many (turn.On m) room i line go xs e h next = next room i m xs e h
-turn_too_many (turn.Number x m) zero i line go xs e h next = let z : ◌≡◌ {A = ℕ} 0 1 = cc in absurd (omega arith)
-turn_too_many (turn.Number x m) (suc room) zero line go xs e h next = record { line = line; is = refl }
-turn_too_many (turn.Number x m) (suc room) (suc i) line go xs e h next =
+turn_too_many (Ok (None, m)) room i line go xs e h next = next room i m xs e h
+turn_too_many (Ok (Some x, m)) zero i line go xs e h next = absurd (cc)
+turn_too_many (Ok (Some x, m)) (suc room) zero line go xs e h next = record { line = line; is = refl }
+turn_too_many (Ok (Some x, m)) (suc room) (suc i) line go xs e h next =
     let b : Behind x (go room m) xs = behind x (go room m) xs e in
     also_too_many x (go i m) (go room m) xs i b (next room i m b.rest b.was (omega (arith, ap length b.all)))
-turn_too_many (turn.Wrong s) room i line go xs e h next = let z : ◌≡◌ {A = ℕ} 0 1 = cc in absurd (omega arith)
+turn_too_many (Err s) room i line go xs e h next = absurd (cc)
 
 from_too_many : (t : List ℕ) (line room i : ℕ) (m : Mark) (xs : List ℕ) → text_from room line m t ≡ these xs → i < length xs
     → OneTooMany (text_from i line m t) xs i

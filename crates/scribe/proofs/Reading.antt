@@ -1,22 +1,31 @@
 -- Where the reader of a text stands between two bytes, and what a byte makes of it.
 -- Assumes nothing.
+use denote.Ref.{Bor}
+use Rattle.std.specs.Iterator.{Yields}
+use Rattle.std.specs.Iterator.Adapters.{chain_steps}
+use Rattle.std.specs.Slice.Iter.{iter_rest}
+use Rattle.std.specs.declared.iter.Chain.{Chain}
+use Rattle.std.specs.declared.slice.Iter.{Iter}
+use Rattle.std.proofs.iter.Yields.{fronts}
+use Rattle.std.proofs.lemmas.Iterator.{YieldsList, YieldsList-from_slice}
+use Rattle.std.proofs.lemmas.Iterator.Consumers.{YieldsList-from_chain, YieldsList-turn, YieldsList-end}
 use Prim.Native.Nat.{ℕ, zero, suc, ◌+◌, ◌≤◌, ◌<◌}
+use Rattle.scribe.specs.declared.Mistake.{Mistake}
+use Rattle.scribe.specs.Contract.{NumbersOfText}
 use mathlib.Core.Path.{◌≡◌, refl, sym, ap, ◌∙◌}
 use mathlib.Core.List.{List, [], ◌∷◌, ◌++◌}
 use mathlib.Core.Bool.{Bool, true, false, cond}
 use native.Mathlib.Numerals.{add-one}
 use native.Mathlib.Omega.{arith}
-use lib.ListN.{length, get_or, set, drop, length-append}
-use lib.Seq.{sets, length-sets}
+use lib.ListN.{length, get_or, set, drop, length-append, drop_of_length-le}
+use lib.Seq.{sets, length-sets, drop-cons}
 use lib.Dec.{eqb}
 use Rattle.scribe.specs.declared.Mark.{Mark}
 use Rattle.scribe.specs.declared.Mark.TheVariants.{Between}
 use Rattle.scribe.specs.declared.Slip.{Slip}
 use Rattle.scribe.specs.declared.Slip.TheVariants.{Many}
-use Rattle.scribe.specs.declared.Turn.TheVariants as turn
-use Rattle.scribe.specs.declared.Scribed.TheVariants as gave
+use Rattle.std.specs.Prelude.{Option, None, Some, Result, Ok, Err}
 use Rattle.scribe.specs.Text.{Said, these, wrong, also, turn_of, line_after, text_from, text_of, gives_text, numbers_in}
-use Rattle.scribe.proofs.TextLaws.{byte_behind, none_behind}
 
 -- numbers that stand before what is still to be read
 abbrev pub before : List ℕ → Said → Said
@@ -48,11 +57,10 @@ line_up : (line b : ℕ) → line_after line b ≤ line + 1
 unfolding line_after
 line_up line b = line_cond (eqb b 10) line
 
--- where the reader stands: the whole text says the numbers that are done, and then what is left from i on says the rest
+-- where the reader stands: the whole text says the numbers that are done, and then what is left from byte i on says the rest
 pub record Reading (text first numbers : List ℕ) (mark : Mark) (line n i : ℕ) : Type 0 where
   pub done : List ℕ
   pub room : ℕ
-  pub within : i ≤ length text + 1
   pub lines : line ≤ i + 1
   pub count : n ≡ length done
   pub rooms : n + room ≡ length first
@@ -61,87 +69,95 @@ pub record Reading (text first numbers : List ℕ) (mark : Mark) (line n i : ℕ
 
 pub begin : (text first : List ℕ) → Reading text first first Between 1 0 0
 unfolding text_of
-begin text first =
-    record {
-      done = [];
-      room = length first;
-      within = omega arith;
-      lines = omega arith;
-      count = refl;
-      rooms = omega arith;
-      holds = refl;
-      same = refl;
-    }
+begin text first = record { done = []; room = length first; lines = omega arith; count = refl; rooms = omega arith; holds = refl; same = refl }
+
+-- byte i of a text with the line end behind it, and what stands behind that byte
+pub record At (text : List ℕ) (i b : ℕ) : Type 0 where
+  pub is : drop i (text ++ (10 ∷ [])) ≡ b ∷ drop (i + 1) (text ++ (10 ∷ []))
+  pub within : i ≤ length text
+
+at_place : (text : List ℕ) (i b : ℕ) → (i < length (text ++ (10 ∷ []))) × (b ≡ get_or (text ++ (10 ∷ [])) i b) → At text i b
+at_place text i b t =
+    let h : i < length (text ++ (10 ∷ [])) = t.0 in
+    record { is = rw (add-one i, drop-cons (text ++ (10 ∷ [])) i b h, ← t.1); within = omega (arith, length-append text (10 ∷ [])) }
+
+-- an iterator over the bytes of a text with the line end behind it
+pub record Bytes (text : List ℕ) (s : Chain (Iter ℕ) (Iter ℕ)) : Type 0 where
+  pub first : iter_rest s.a ≡ text
+  pub second : iter_rest s.b ≡ 10 ∷ []
+  pub begun : s.a_done ≡ false
+  pub open_end : s.b_done ≡ false
+
+module _ {text : List ℕ} {s : Chain (Iter ℕ) (Iter ℕ)} (g : Bytes text s) where
+  all : YieldsList (chain_steps fronts fronts) (λ (b : Bor ℕ). b.now) s (text ++ (10 ∷ []))
+  all = YieldsList-from_chain (YieldsList-from_slice text g.first) (YieldsList-from_slice (10 ∷ []) g.second) g.begun g.open_end
+
+  module _ (xs : List (Bor ℕ)) (t : Chain (Iter ℕ) (Iter ℕ)) (y : Yields (chain_steps fronts fronts) s xs t) (u : Chain (Iter ℕ) (Iter ℕ)) where
+    pub at_turn : {r : Option (Bor ℕ)} {b : Bor ℕ} → r ≡ Some b → chain_steps fronts fronts t r u → At text (length xs) b.now
+    at_turn {r} {b} e h = at_place text (length xs) b.now (YieldsList-turn all xs t y r u b e h)
+
+    pub all_read : {r : Option (Bor ℕ)} → r ≡ None → chain_steps fronts fronts t r u → length xs ≡ length (text ++ (10 ∷ []))
+    all_read {r} e h = (YieldsList-end all xs t y r u e h).1
 
 -- what the function promises where the text says this
-pub told : (text first numbers : List ℕ) (said : Said) (xs : List ℕ) → text_of (length first) text ≡ said → numbers_in said ≡ xs
-    → numbers ≡ sets first 0 xs
-    → (gives_text said ≡ gives_text (text_of (length first) text)) × (numbers ≡ sets first 0 (numbers_in (text_of (length first) text)))
-told text first numbers said xs e f h = (rw e, h ∙ rw (e, f))
+told : (text first numbers : List ℕ) (said : Said) (xs : List ℕ) (r : Result ℕ Mistake) → text_of (length first) text ≡ said → numbers_in said ≡ xs
+    → numbers ≡ sets first 0 xs → r ≡ gives_text said → NumbersOfText text first r numbers
+told text first numbers said xs r e f h g = record { gives = rw (g, e); holds = h ∙ rw (e, f) }
 
-number_at : (text first numbers : List ℕ) (mark m : Mark) (line n i x : ℕ) (done : List ℕ) (room : ℕ) → i ≤ length text → line ≤ i + 1
+number_at : (text first numbers : List ℕ) (mark m : Mark) (line n i b x : ℕ) (done : List ℕ) (room : ℕ) → line ≤ i + 1
     → n ≡ length done → n + room ≡ length first → numbers ≡ sets first 0 done
     → text_of (length first) text ≡ before done (text_from room line mark (drop i (text ++ (10 ∷ []))))
-    → turn_of mark (get_or text i 10) ≡ turn.Number x m → n < length first
-    → Reading text first (set numbers n x) m (line_after line (get_or text i 10)) (n + 1) (i + 1)
-number_at text first numbers mark m line n i x done zero w ls ct rs hs sm t h = absurd (omega arith)
-number_at text first numbers mark m line n i x done (suc room) w ls ct rs hs sm t h =
+    → At text i b → turn_of mark b ≡ Ok (Some x, m) → n < length first → Reading text first (set numbers n x) m (line_after line b) (n + 1) (i + 1)
+number_at text first numbers mark m line n i b x done zero ls ct rs hs sm a t h = absurd (omega arith)
+number_at text first numbers mark m line n i b x done (suc room) ls ct rs hs sm a t h =
     record {
       done = done ++ (x ∷ []);
       room = room;
-      within = omega arith;
-      lines = omega (arith, line_up line (get_or text i 10));
+      lines = omega (arith, line_up line b);
       count = omega (arith, length-append done (x ∷ []));
       rooms = omega arith;
       holds = let z : 0 + length done ≡ length done = omega arith in rw (hs, ct) (sym (rw z at (sets_more first 0 done x)));
-      same = sm ∙ rw (byte_behind text i w) (rw (t, add-one i) (before_more done x _));
+      same = sm ∙ rw (a.is, t) (before_more done x _);
     }
 
-many_at : (text first numbers : List ℕ) (mark m : Mark) (line n i x : ℕ) (done : List ℕ) (room : ℕ) → i ≤ length text
-    → n + room ≡ length first
+many_at : (text first : List ℕ) (mark m : Mark) (line n i b x : ℕ) (done : List ℕ) (room : ℕ) → n + room ≡ length first
     → text_of (length first) text ≡ before done (text_from room line mark (drop i (text ++ (10 ∷ []))))
-    → turn_of mark (get_or text i 10) ≡ turn.Number x m → length first ≤ n → text_of (length first) text ≡ wrong done Many line
-many_at text first numbers mark m line n i x done zero w rs sm t h = sm ∙ rw (byte_behind text i w) (rw t (before_wrong done Many line))
-many_at text first numbers mark m line n i x done (suc room) w rs sm t h = absurd (omega arith)
+    → At text i b → turn_of mark b ≡ Ok (Some x, m) → length first ≤ n → text_of (length first) text ≡ wrong done Many line
+many_at text first mark m line n i b x done zero rs sm a t h = sm ∙ rw (a.is, t) (before_wrong done Many line)
+many_at text first mark m line n i b x done (suc room) rs sm a t h = absurd (omega arith)
 
 module _ {text first numbers : List ℕ} {mark : Mark} {line n i : ℕ} (g : Reading text first numbers mark line n i) where
   pub long : length numbers ≡ length first
   long = ap length g.holds ∙ length-sets first 0 g.done
 
-  pub go_on : (b : ℕ) (m : Mark) → i ≤ length text → b ≡ get_or text i 10 → turn_of mark b ≡ turn.On m
-      → Reading text first numbers m (line_after line b) n (i + 1)
-  go_on b m h e t =
-      rw e (record {
+  pub go_on : {b : ℕ} {m : Mark} → At text i b → turn_of mark b ≡ Ok (None, m) → Reading text first numbers m (line_after line b) n (i + 1)
+  go_on {b} a t =
+      record {
         done = g.done;
         room = g.room;
-        within = omega arith;
-        lines = omega (arith, line_up line (get_or text i 10), g.lines);
+        lines = omega (arith, line_up line b, g.lines);
         count = g.count;
         rooms = g.rooms;
         holds = g.holds;
-        same = g.same ∙ rw (byte_behind text i h) (rw (rw e at t, add-one i));
-      })
+        same = g.same ∙ rw (a.is, t);
+      }
 
-  pub take_number : (b x : ℕ) (m : Mark) → i ≤ length text → b ≡ get_or text i 10 → turn_of mark b ≡ turn.Number x m → n < length numbers
+  pub take_number : {b x : ℕ} {m : Mark} → At text i b → turn_of mark b ≡ Ok (Some x, m) → n < length numbers
       → Reading text first (set numbers n x) m (line_after line b) (n + 1) (i + 1)
-  take_number b x m h e t r =
-      rw e (number_at text first numbers mark m line n i x g.done g.room h g.lines g.count g.rooms g.holds g.same (rw e at t)
-      (omega (arith, long)))
+  take_number {b} {x} {m} a t h =
+      number_at text first numbers mark m line n i b x g.done g.room g.lines g.count g.rooms g.holds g.same a t (omega (arith, long))
 
-  pub many : (b x : ℕ) (m : Mark) → i ≤ length text → b ≡ get_or text i 10 → turn_of mark b ≡ turn.Number x m → length numbers ≤ n
-      → (gave.Wrong Many line ≡ gives_text (text_of (length first) text)) × (numbers ≡ sets first 0 (numbers_in (text_of (length first) text)))
-  many b x m h e t r =
-      told text first numbers (wrong g.done Many line) g.done
-      (many_at text first numbers mark m line n i x g.done g.room h g.rooms g.same (rw e at t) (omega (arith, long))) refl g.holds
+  pub many : {b x : ℕ} {m : Mark} → At text i b → turn_of mark b ≡ Ok (Some x, m) → length numbers ≤ n
+      → NumbersOfText text first (Err (record { slip = Many; line = line })) numbers
+  many {b} {x} {m} a t h =
+      told text first numbers (wrong g.done Many line) g.done _
+      (many_at text first mark m line n i b x g.done g.room g.rooms g.same a t (omega (arith, long))) refl g.holds refl
 
-  pub slips : (b : ℕ) (s : Slip) → i ≤ length text → b ≡ get_or text i 10 → turn_of mark b ≡ turn.Wrong s
-      → (gave.Wrong s line ≡ gives_text (text_of (length first) text)) × (numbers ≡ sets first 0 (numbers_in (text_of (length first) text)))
-  slips b s h e t =
-      told text first numbers (wrong g.done s line) g.done
-      (g.same ∙ rw (byte_behind text i h) (rw (rw e at t) (before_wrong g.done s line))) refl g.holds
+  pub slips : {b : ℕ} {s : Slip} → At text i b → turn_of mark b ≡ Err s → NumbersOfText text first (Err (record { slip = s; line = line })) numbers
+  slips {b} {s} a t =
+      told text first numbers (wrong g.done s line) g.done _ (g.same ∙ rw (a.is, t) (before_wrong g.done s line)) refl g.holds refl
 
-  pub ends : length text < i
-      → (gave.Numbers n ≡ gives_text (text_of (length first) text)) × (numbers ≡ sets first 0 (numbers_in (text_of (length first) text)))
-  ends h =
-      rw g.count
-      (told text first numbers (these g.done) g.done (g.same ∙ rw (none_behind text i h) (before_these g.done)) refl g.holds)
+  pub ends : i ≡ length (text ++ (10 ∷ [])) → NumbersOfText text first (Ok n) numbers
+  ends e =
+      told text first numbers (these g.done) g.done _
+      (let d : drop i (text ++ (10 ∷ [])) ≡ [] = drop_of_length-le (text ++ (10 ∷ [])) (omega arith) in g.same ∙ rw d (before_these g.done)) refl g.holds (ap Ok g.count)

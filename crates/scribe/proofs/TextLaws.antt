@@ -1,18 +1,15 @@
 -- Laws of what a text says: the range of a digit, the text's bytes with the line end behind them, one by one, and that there are no more
 -- numbers than there is room for.
 -- Assumes nothing.
-use Rattle.std.specs.Prelude.{ℕ, zero, suc, ◌≤◌, ◌<◌, ◌≡◌, refl, List, [], ◌∷◌, ◌++◌, Bool, true, false, ◌&&◌, length, get_or, drop, leb}
+use Rattle.std.specs.Prelude.{None, Some, Ok, Err, ℕ, zero, suc, ◌≤◌, ◌<◌, ◌≡◌, refl, List, [], ◌∷◌, ◌++◌, Bool, true, false, ◌&&◌, length, get_or, drop, leb}
 use Rattle.std.proofs.Common.{arith, leb-true}
 use Rattle.scribe.specs.declared.Mark.{Mark}
 use Rattle.scribe.specs.declared.Mark.TheVariants.{Between}
-use Rattle.scribe.specs.declared.Turn.{Turn}
-use Rattle.scribe.specs.declared.Turn.TheVariants as turn
-use Rattle.scribe.specs.declared.Scribed.TheVariants as gave
-use Rattle.scribe.specs.Text.{is_digit, Said, these, wrong, also, on_turn, turn_of, line_after, text_from, text_of, gives_text, numbers_in}
+use Rattle.scribe.specs.Text.{Turn, is_digit, Said, these, wrong, also, on_turn, turn_of, line_after, text_from, text_of, gives_text, numbers_in}
 
 both : (p q : Bool) → (p && q) ≡ true → (p ≡ true) × (q ≡ true)
 both true q e = (refl, e)
-both false q e = let z : ◌≡◌ {A = ℕ} 0 1 = cc in absurd (omega arith)
+both false q e = absurd (cc)
 
 pub digit_range : (b : ℕ) → is_digit b ≡ true → (48 ≤ b) × (b ≤ 57)
 unfolding is_digit
@@ -46,21 +43,21 @@ also_length x (wrong xs s l) = refl
 
 turn_few : (u : Turn) (room line : ℕ) (go : ℕ → Mark → Said) → ((r : ℕ) (m : Mark) → length (numbers_in (go r m)) ≤ r)
     → length (numbers_in (on_turn u room line go)) ≤ room
-turn_few (turn.On m) room line go h = h room m
-turn_few (turn.Number x m) zero line go h = omega arith
-turn_few (turn.Number x m) (suc room) line go h = omega (arith, also_length x (go room m), h room m)
-turn_few (turn.Wrong s) room line go h = omega arith
+turn_few (Ok (None, m)) room line go h = h room m
+turn_few (Ok (Some x, m)) zero line go h = omega arith
+turn_few (Ok (Some x, m)) (suc room) line go h = omega (arith, also_length x (go room m), h room m)
+turn_few (Err s) room line go h = omega arith
 
 numbers_few : (room line : ℕ) (m : Mark) (t : List ℕ) → length (numbers_in (text_from room line m t)) ≤ room
 numbers_few room line m [] = omega arith
 numbers_few room line m (b ∷ t) =
     turn_few (turn_of m b) room line (λ room' m'. text_from room' (line_after line b) m' t) (λ room' m'. numbers_few room' (line_after line b) m' t)
 
-gives_count : (s : Said) (n : ℕ) → gives_text s ≡ gave.Numbers n → n ≡ length (numbers_in s)
+gives_count : (s : Said) (n : ℕ) → gives_text s ≡ Ok n → n ≡ length (numbers_in s)
 gives_count (these xs) n e = cc
-gives_count (wrong xs s l) n e = let z : ◌≡◌ {A = ℕ} 0 1 = cc in absurd (omega arith)
+gives_count (wrong xs s l) n e = absurd (cc)
 
-pub text_few : (room : ℕ) (text : List ℕ) (n : ℕ) → gives_text (text_of room text) ≡ gave.Numbers n → n ≤ room
+pub text_few : (room : ℕ) (text : List ℕ) (n : ℕ) → gives_text (text_of room text) ≡ Ok n → n ≤ room
 unfolding text_of
 text_few room text n e =
     let q = gives_count (text_of room text) n e in

@@ -1,12 +1,11 @@
 -- What was written is read back: the decimal digits of a number below 2^32, with a blank behind them, are that number; a comment is passed
 -- over; and a line end alone says no number.
 -- Assumes nothing.
-use Rattle.std.specs.Prelude.{ℕ, suc, ◌+◌, ◌-◌, ◌*◌, ◌≤◌, ◌<◌, ◌≡◌, refl, List, [], ◌∷◌, ◌++◌, true, false, length}
+use Rattle.std.specs.Prelude.{None, Some, Ok, ℕ, suc, ◌+◌, ◌-◌, ◌*◌, ◌≤◌, ◌<◌, ◌≡◌, refl, List, [], ◌∷◌, ◌++◌, true, false, length}
 use Rattle.std.proofs.Common.{◌∙◌, arith, le-leb, ne_eqb}
 use Rattle.text.specs.Decimal.{decimal, value_after, value_of}
 use Rattle.text.proofs.DecimalLaws.{AllDigits, decimal_all, decimal_some, decimal_value}
 use Rattle.scribe.specs.declared.Mark.TheVariants.{Between, Comment, Inside}
-use Rattle.scribe.specs.declared.Turn.TheVariants as turn
 use Rattle.scribe.specs.Text.{is_blank, is_digit, outside_by, longer_by, inside_by, turn_of, these, also, line_after, text_from}
 
 -- A digit, byte by byte.
@@ -23,15 +22,15 @@ same_line : (line b : ℕ) → (b ≡ 10 → ⊥) → line_after line b ≡ line
 unfolding line_after
 same_line line b h = rw (ne_eqb b 10 h)
 
-first_digit : (d : ℕ) → 48 ≤ d → d ≤ 57 → turn_of Between d ≡ turn.On (Inside (d - 48))
+first_digit : (d : ℕ) → 48 ≤ d → d ≤ 57 → turn_of Between d ≡ Ok (None, Inside (d - 48))
 unfolding turn_of outside_by
 first_digit d h k = rw (digit_no_blank d h, ne_eqb d 35 (λ e. omega arith), digit_is d h k)
 
-next_digit : (v d : ℕ) → 48 ≤ d → d ≤ 57 → 10 * v + (d - 48) ≤ 4294967295 → turn_of (Inside v) d ≡ turn.On (Inside (10 * v + (d - 48)))
+next_digit : (v d : ℕ) → 48 ≤ d → d ≤ 57 → 10 * v + (d - 48) ≤ 4294967295 → turn_of (Inside v) d ≡ Ok (None, Inside (10 * v + (d - 48)))
 unfolding turn_of inside_by longer_by
 next_digit v d h k m = rw (digit_is d h k, le-leb (10 * v + (d - 48)) 4294967295 m)
 
-behind_digits : (v b : ℕ) → is_digit b ≡ false → is_blank b ≡ true → turn_of (Inside v) b ≡ turn.Number v Between
+behind_digits : (v b : ℕ) → is_digit b ≡ false → is_blank b ≡ true → turn_of (Inside v) b ≡ Ok (Some v, Between)
 unfolding turn_of inside_by
 behind_digits v b h k = rw (h, k)
 
@@ -69,7 +68,7 @@ abbrev pub OneLine : List ℕ → Type 0
 OneLine [] = Unit {0}
 OneLine (b ∷ bs) = (b ≡ 10 → ⊥) × OneLine bs
 
-comment_on : (b : ℕ) → (b ≡ 10 → ⊥) → turn_of Comment b ≡ turn.On Comment
+comment_on : (b : ℕ) → (b ≡ 10 → ⊥) → turn_of Comment b ≡ Ok (None, Comment)
 unfolding turn_of
 comment_on b h = rw (ne_eqb b 10 h)
 

@@ -1,8 +1,8 @@
 // A sheet's numbers as text: decimal numbers with blanks or line ends between them, and comments from `#` to the line's end.
 
-#![tactic(auto)]
+#![tactic(auto, using(std::proofs::lemmas::Bool::Decides::nat_tests), unfolding(crate::specs::Text::is_blank, crate::specs::Text::is_digit, crate::specs::Text::outside_by, crate::specs::Text::longer_by, crate::specs::Text::inside_by, crate::specs::Text::turn_of, crate::specs::Text::line_after))]
 
-ghost use Rattle.std.specs.Prelude.{◌≡◌, ◌+◌, ◌≤◌, ◌<◌, get_or};
+ghost use Rattle.std.specs.Prelude.{◌≡◌, ◌≤◌, ◌<◌};
 ghost use Rattle.scribe.specs.Text.{is_blank, is_digit, outside_by, longer_by, inside_by, turn_of, line_after};
 ghost use Rattle.scribe.specs.Contract.{NumbersOfText};
 
@@ -22,58 +22,33 @@ pub enum Slip {
     Many,
 }
 
-// What a byte does: the reader goes on; a number ends; or the text is wrong.
+// What is wrong with a text, and in which line, counted from 1.
 #[derive(Clone, Copy)]
-pub enum Turn {
-    On(Mark),
-    Number(u32, Mark),
-    Wrong(Slip),
+pub struct Mistake {
+    pub slip: Slip,
+    pub line: usize,
 }
 
-// What a text gives: the count of its numbers; or what is wrong, and in which line, counted from 1.
-#[derive(Clone, Copy)]
-pub enum Scribed {
-    Numbers(usize),
-    Wrong(Slip, usize),
-}
+// What a byte does: the number that ends with it, if one does, and where the reader stands behind it; or the text is wrong.
+type Turn = Result<(Option<u32>, Mark), Slip>;
 
-// Whether a byte stands between numbers: a blank, a tab, a carriage return, a line end.
+// Whether a byte stands between numbers.
 fn is_blank(b: u8) -> bool
     ensures { result ≡ is_blank b }
 {
-    if b == 32 {
-        return true;
-    }
-    if b == 9 {
-        return true;
-    }
-    if b == 13 {
-        return true;
-    }
-    b == 10
-}
-
-// Whether a byte is a digit.
-fn is_digit(b: u8) -> bool
-    ensures { result ≡ is_digit b }
-{
-    if 48 <= b { b <= 57 } else { false }
+    matches!(b, b' ' | b'\t' | b'\r' | b'\n')
 }
 
 // What a byte does between numbers.
 fn outside(b: u8) -> Turn
     ensures { result ≡ outside_by b }
 {
-    if is_blank(b) {
-        return Turn::On(Mark::Between);
+    match b {
+        _ if is_blank(b) => Ok((None, Mark::Between)),
+        b'#' => Ok((None, Mark::Comment)),
+        b'0'..=b'9' => Ok((None, Mark::Inside(u32::from(b - b'0')))),
+        _ => Err(Slip::Word),
     }
-    if b == 35 {
-        return Turn::On(Mark::Comment);
-    }
-    if is_digit(b) {
-        return Turn::On(Mark::Inside((b - 48) as u32));
-    }
-    Turn::Wrong(Slip::Word)
 }
 
 // What a digit does inside a number whose digits so far are worth v.
@@ -81,27 +56,22 @@ fn longer(v: u32, d: u8) -> Turn
     requires { d ≤ 9 }
     ensures { result ≡ longer_by v d }
 {
-    let x = 10 * (v as u64) + (d as u64);
-    if x <= 4294967295 {
-        return Turn::On(Mark::Inside(x as u32));
+    match u32::try_from(10 * u64::from(v) + u64::from(d)) {
+        Ok(x) => Ok((None, Mark::Inside(x))),
+        Err(_) => Err(Slip::Large),
     }
-    Turn::Wrong(Slip::Large)
 }
 
 // What a byte does inside a number whose digits so far are worth v.
 fn inside(v: u32, b: u8) -> Turn
     ensures { result ≡ inside_by v b }
 {
-    if is_digit(b) {
-        return longer(v, b - 48);
+    match b {
+        b'0'..=b'9' => longer(v, b - b'0'),
+        _ if is_blank(b) => Ok((Some(v), Mark::Between)),
+        b'#' => Ok((Some(v), Mark::Comment)),
+        _ => Err(Slip::Word),
     }
-    if is_blank(b) {
-        return Turn::Number(v, Mark::Between);
-    }
-    if b == 35 {
-        return Turn::Number(v, Mark::Comment);
-    }
-    Turn::Wrong(Slip::Word)
 }
 
 // What a byte does.
@@ -110,13 +80,8 @@ fn turn_of(mark: Mark, b: u8) -> Turn
 {
     match mark {
         Mark::Between => outside(b),
-        Mark::Comment => {
-            if b == 10 {
-                Turn::On(Mark::Between)
-            } else {
-                Turn::On(Mark::Comment)
-            }
-        }
+        Mark::Comment if b == b'\n' => Ok((None, Mark::Between)),
+        Mark::Comment => Ok((None, Mark::Comment)),
         Mark::Inside(v) => inside(v, b),
     }
 }
@@ -126,45 +91,32 @@ fn line_after(line: usize, b: u8) -> usize
     requires { line < 18446744073709551615 }
     ensures { result ≡ line_after line b }
 {
-    if b == 10 { line + 1 } else { line }
-}
-
-// The byte at a place of a text; behind its last byte stands a line end.
-fn byte_at(text: &[u8], i: usize) -> u8
-    ensures { result ≡ get_or text.now i 10 }
-{
-    if i < text.len() { text[i] } else { 10 }
+    if b == b'\n' { line + 1 } else { line }
 }
 
 // Reads a text's numbers over the front of a lent list: their count, or what is wrong with the text and in which line. Entries past the
 // numbers read stay. A number for which the list has no room is wrong, so that a list of i numbers tells the line of the number behind them.
-pub fn numbers_of_text(text: &[u8], numbers: &mut [u32]) -> Scribed
+// A line end stands behind the text.
+pub fn numbers_of_text(text: &[u8], numbers: &mut [u32]) -> Result<usize, Mistake>
     ensures { NumbersOfText text.now numbers.old result numbers.new }
 {
     let mut mark = Mark::Between;
-    let mut line: usize = 1;
-    let mut n: usize = 0;
-    let mut i: usize = 0;
-    while i <= text.len() {
-        let b = byte_at(text, i);
-        match turn_of(mark, b) {
-            Turn::On(m) => {
-                mark = m;
+    let mut line = 1;
+    let mut n = 0;
+    for &b in text.iter().chain(b"\n") {
+        let (ended, next) = turn_of(mark, b).map_err(|slip| Mistake { slip, line })?;
+        if let Some(x) = ended {
+            if numbers.len() <= n {
+                return Err(Mistake {
+                    slip: Slip::Many,
+                    line,
+                });
             }
-            Turn::Number(x, m) => {
-                if numbers.len() <= n {
-                    return Scribed::Wrong(Slip::Many, line);
-                }
-                numbers[n] = x;
-                n = n + 1;
-                mark = m;
-            }
-            Turn::Wrong(slip) => {
-                return Scribed::Wrong(slip, line);
-            }
+            numbers[n] = x;
+            n += 1;
         }
+        mark = next;
         line = line_after(line, b);
-        i = i + 1;
     }
-    Scribed::Numbers(n)
+    Ok(n)
 }

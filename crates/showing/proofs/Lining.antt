@@ -1,82 +1,47 @@
--- The loop over a sheet's lines: what is left to put is the lines of the numbers from i on. And what is printed once they stand on the page.
+-- The lines of a sheet, and what stands on the page behind some of them. And what is handed over once all are on it.
 -- Assumes nothing.
-use Prim.Native.Nat.{ℕ, zero, suc, ◌+◌, ◌≤◌, ◌<◌}
-use mathlib.Core.Path.{◌≡◌, refl, sym, ap, ◌∙◌}
-use mathlib.Core.List.{List, ◌++◌}
-use native.Mathlib.Numerals.{add-one}
-use native.Mathlib.Omega.{arith}
-use lib.ListN.{length, take, length-append}
-use lib.Seq.{sets, length-sets}
-use Rattle.ground.proofs.BufferLaws.{sets_append, stored_front}
-use Rattle.sheet.specs.Sheet.{sheet_of}
-use Rattle.text.specs.declared.Printed.{Printed}
-use Rattle.text.specs.Lines.{bytes_of}
-use Rattle.text.specs.Contract.{Put, HandOver}
-use Rattle.text.proofs.PutLaws.{put_long}
-use Rattle.showing.specs.Shown.{number_line, lines_from, shown, show_text, show_printed, sheet_page}
-use Rattle.showing.proofs.ShownLaws.{show_short, show_bytes}
-use Rattle.showing.specs.Contract.{Show}
+use Rattle.std.specs.Prelude.{ℕ, zero, suc, ◌+◌, ◌-◌, ◌<◌, ◌≡◌, List, ◌++◌, length}
+use Rattle.std.proofs.Common.{arith, append_assoc, append-nil, zero-add}
+use Rattle.text.specs.declared.Page.{Page}
+use Rattle.text.specs.Contract.{Room, Written}
+use Rattle.text.proofs.PutLaws.{room_first, room_then, written_then, written_none}
+use Rattle.showing.specs.Shown.{number_line, lines_from, shown}
 
-pub record Lining (xs first page : List ℕ) (at i : ℕ) : Type 0 where
-  pub left : ℕ
-  pub turns : i + left ≡ length xs
-  pub place : at + length (lines_from xs i left) ≡ length (shown xs)
-  pub same : sets first 0 (shown xs) ≡ sets page at (lines_from xs i left)
-  pub long : length page ≡ length first
-
-pub begin_lining : (xs first : List ℕ) → Lining xs first first 0 0
-unfolding shown
-begin_lining xs first = record { left = length xs; turns = omega arith; place = omega arith; same = refl; long = refl }
-
--- what is left where another number is to come
-record More (xs : List ℕ) (i left : ℕ) : Type 0 where
-  rest : ℕ
-  turns : (i + 1) + rest ≡ length xs
-  next : lines_from xs i left ≡ number_line xs i ++ lines_from xs (i + 1) rest
-
-more : (left : ℕ) (xs : List ℕ) (i : ℕ) → i + left ≡ length xs → i < length xs → More xs i left
+-- the lines of n + m numbers are those of n of them, and behind them those of the others
+lines_split : (xs : List ℕ) (i n m : ℕ) → lines_from xs i (n + m) ≡ lines_from xs i n ++ lines_from xs (i + n) m
 unfolding lines_from
-more zero xs i e h = absurd (omega arith)
-more (suc k) xs i e h = record { rest = k; turns = omega arith; next = rw (add-one i) }
+lines_split xs i zero m = let z : 0 + m ≡ m = omega arith in let j : i + 0 ≡ i = omega arith in rw (z, j)
+lines_split xs i (suc n) m =
+    let z : suc n + m ≡ suc (n + m) = omega arith in
+    let j : i + suc n ≡ suc i + n = omega arith in
+    rw (z, j, lines_split xs (suc i) n m, append_assoc)
 
-module _ {xs first page : List ℕ} {at i : ℕ} (g : Lining xs first page at i) where
-  pub fits : i < length xs → length (shown xs) ≤ length first → at + length (number_line xs i) ≤ length page
-  fits h r =
-      let m = more g.left xs i g.turns h in
-      omega (arith, g.place, g.long, ap length m.next, length-append (number_line xs i) (lines_from xs (i + 1) m.rest))
+-- the lines of the first i numbers, and the line of the next
+next_line : (xs : List ℕ) (i : ℕ) → lines_from xs 0 (i + 1) ≡ lines_from xs 0 i ++ number_line xs i
+unfolding lines_from
+next_line xs i = rw (lines_split xs 0 i 1, zero-add, append-nil)
 
-  pub turn_lining : {page' : List ℕ} {at' : ℕ} → i < length xs → Put (number_line xs i) page at at' page' → Lining xs first page' at' (i + 1)
-  turn_lining {page'} {at'} h p =
-      let m = more g.left xs i g.turns h in
-      let rest = lines_from xs (i + 1) m.rest in
-      record {
-        left = m.rest;
-        turns = m.turns;
-        place = omega (arith, g.place, ap length m.next, length-append (number_line xs i) rest, p.next);
-        same = g.same ∙ rw (m.next, sets_append page at (number_line xs i) rest, ← p.stored, ← p.next);
-        long = put_long (number_line xs i) page at p ∙ g.long;
-      }
+-- all lines: those of the first i numbers, the line of the next, and the others
+lines_at : (xs : List ℕ) (i k : ℕ) → length xs ≡ i + suc k → shown xs ≡ lines_from xs 0 i ++ (number_line xs i ++ lines_from xs (suc i) k)
+unfolding shown lines_from
+lines_at xs i k e = rw (e, lines_split xs 0 i (suc k), zero-add)
 
-  pub lined : length xs ≤ i → Put (shown xs) first 0 at page
-  unfolding lines_from
-  lined h = by g.left g.turns g.place g.same
-    where
-      by : (left : ℕ) → i + left ≡ length xs → at + length (lines_from xs i left) ≡ length (shown xs) → sets first 0 (shown xs) ≡ sets page at (lines_from xs i left)
-          → Put (shown xs) first 0 at page
-      by zero t p s = record { next = omega arith; stored = sym s }
-      by (suc k) t p s = absurd (omega arith)
+module _ (xs : List ℕ) {first page : Page} where
+  pub room_next : {i : ℕ} → i < length xs → Written (lines_from xs 0 i) first page → Room (shown xs) first → Room (number_line xs i) page
+  room_next {i} h w r =
+      let k = length xs - suc i in
+      let rest = lines_from xs (suc i) k in
+      room_first (number_line xs i) rest page
+      (room_then (lines_from xs 0 i) (number_line xs i ++ rest) w (rw (lines_at xs i k (omega arith)) at r))
 
--- the page holds what is to be printed, and is handed over
-module _ (bytes clear page : List ℕ) (r : Printed) (n : ℕ) (clean : length clear ≡ sheet_page) (gives : r ≡ show_printed (sheet_of bytes))
-    (put : page ≡ sets clear 0 (show_text (sheet_of bytes))) (count : n ≡ bytes_of r) where
-  long : n ≡ length (show_text (sheet_of bytes))
-  long = count ∙ ap bytes_of gives ∙ show_bytes (sheet_of bytes)
+  pub one_more : (i : ℕ) {page' : Page} → Written (lines_from xs 0 i) first page → Written (number_line xs i) page page'
+      → Written (lines_from xs 0 (i + 1)) first page'
+  one_more i w p = rw (next_line xs i) (written_then w p)
 
-  pub within : n ≤ length page
-  within = omega (arith, long, show_short bytes, ap length put, length-sets clear 0 (show_text (sheet_of bytes)))
+  pub all_lines : {i : ℕ} → length xs ≡ i → Written (lines_from xs 0 i) first page → Written (shown xs) first page
+  unfolding shown
+  all_lines e w = rw e w
 
-  front_is : take n page ≡ show_text (sheet_of bytes)
-  front_is = rw (long, put) (stored_front (show_text (sheet_of bytes)) clear (omega (arith, show_short bytes)))
-
-  pub handed : {text after : List ℕ} → HandOver (take n page) text after → Show bytes text r after
-  handed h = record { gives = gives; leaves = h.leaves ∙ rw front_is }
+pub none_yet : (xs : List ℕ) (page : Page) → Written (lines_from xs 0 0) page page
+unfolding lines_from
+none_yet xs page = written_none page

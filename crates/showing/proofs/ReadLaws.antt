@@ -12,7 +12,7 @@ use Rattle.naming.specs.Names.{watched_burst_word, watched_rate_word, mode_word,
 use Rattle.scribe.specs.declared.Mark.TheVariants.{Between}
 use Rattle.scribe.specs.Text.{is_digit, is_blank, these, also, line_after, text_from, text_of}
 use Rattle.scribe.proofs.TripLaws.{number_read, OneLine, comment_read, line_end_alone}
-use Rattle.showing.specs.Shown.{number_line, lines_from, shown}
+use Rattle.showing.specs.Shown.{named_line, number_line, lines_from, shown}
 
 -- A name stands in one line.
 
@@ -69,7 +69,7 @@ same_line line = refl
 
 line_read : (room line : ℕ) (xs : List ℕ) (i : ℕ) (t : List ℕ) → get_or xs i 0 < 4294967296
     → text_from (suc room) line Between (number_line xs i ++ t) ≡ also (get_or xs i 0) (text_from room (line + 1) Between t)
-unfolding number_line name_at
+unfolding named_line name_at
 line_read room line xs i t h =
     let name = name_of (field_at i (seen (extent_in xs))) (owner_at i (seen (extent_in xs))) in
     let o : OneLine (32 ∷ name) = ((λ e. omega arith), name_line (field_at i (seen (extent_in xs))) (owner_at i (seen (extent_in xs)))) in

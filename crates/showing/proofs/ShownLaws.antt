@@ -1,11 +1,11 @@
 -- How long the text of a sheet is: a line takes at most 65 bytes, so that a page has room for 231 of them.
 -- Assumes nothing.
-use Rattle.std.specs.Prelude.{ℕ, zero, suc, ◌+◌, ◌*◌, ◌≤◌, ◌≡◌, refl, List, length, get_or}
+use Rattle.std.specs.Prelude.{ℕ, zero, suc, ◌+◌, ◌*◌, ◌≤◌, ◌≡◌, refl, List, Result, length, get_or}
 use Rattle.std.proofs.Common.{ap, arith, length-append}
 use Rattle.fields.specs.Refusal.{refusal}
 use Rattle.sheet.specs.Sheet.{Found, fail, these, sheet_of}
 use Rattle.sheet.proofs.ValidLaws.{read_valid, valid_length}
-use Rattle.text.specs.declared.Printed.{Printed}
+use Rattle.text.specs.declared.Refused.{Refused}
 use Rattle.text.specs.Decimal.{decimal}
 use Rattle.text.proofs.DecimalLaws.{decimal_few}
 use Rattle.text.specs.Lines.{bytes_of}
@@ -13,10 +13,10 @@ use Rattle.text.proofs.LinesLaws.{refusal_short}
 use Rattle.naming.specs.Names.{extent_in, name_at}
 use Rattle.naming.proofs.NamesLaws.{name_at_short}
 use Rattle.showing.specs.Contract.{Show}
-use Rattle.showing.specs.Shown.{number_line, lines_from, shown, show_text, show_printed, sheet_page}
+use Rattle.showing.specs.Shown.{named_line, number_line, lines_from, shown, show_text, show_printed, sheet_page}
 
 pub line_length : (xs : List ℕ) (i : ℕ) → length (number_line xs i) ≡ length (decimal (get_or xs i 0)) + (3 + (length (name_at i (extent_in xs)) + 1))
-unfolding number_line
+unfolding named_line
 line_length xs i = rw (length-append, length-append, length-append)
 
 line_short : (xs : List ℕ) (i : ℕ) → length (number_line xs i) ≤ 65
@@ -47,5 +47,5 @@ show_bytes (fail w d) = refl
 show_bytes (these xs) = refl
 
 -- so a page has room for what `show` gives to print
-pub show_fits : {bytes before after : List ℕ} {r : Printed} → Show bytes before r after → bytes_of r ≤ sheet_page
+pub show_fits : {bytes before after : List ℕ} {r : Result ℕ Refused} → Show bytes before r after → bytes_of r ≤ sheet_page
 show_fits {bytes} h = omega (arith, ap bytes_of h.gives, show_bytes (sheet_of bytes), show_short bytes)

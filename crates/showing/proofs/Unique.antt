@@ -1,10 +1,10 @@
 -- The contract of `show` leaves one possible result, and one possible content of the lent buffer, for every input.
 -- Assumes nothing.
-use Rattle.std.specs.Prelude.{ℕ, ◌≡◌, List}
+use Rattle.std.specs.Prelude.{ℕ, ◌≡◌, List, Result}
 use Rattle.ground.proofs.ValueLaws.{one_value}
-use Rattle.text.specs.declared.Printed.{Printed}
+use Rattle.text.specs.declared.Refused.{Refused}
 use Rattle.showing.specs.Contract.{Show}
 
-pub show_unique : (bytes before : List ℕ) (r r' : Printed) (after after' : List ℕ) → Show bytes before r after → Show bytes before r' after'
+pub show_unique : (bytes before : List ℕ) (r r' : Result ℕ Refused) (after after' : List ℕ) → Show bytes before r after → Show bytes before r' after'
     → (r ≡ r') × (after ≡ after')
 show_unique bytes before r r' after after' p q = (one_value p.gives q.gives, one_value p.leaves q.leaves)

@@ -1,10 +1,12 @@
 -- Laws of decimal numbers: the digits one by one, how many there are, that each is a digit, and that a number that was written is read back.
 -- Assumes nothing.
 use Rattle.std.specs.Prelude.{ℕ, zero, suc, ◌+◌, ◌-◌, ◌*◌, ◌/◌, ◌%◌, ◌^◌, ◌≤◌, ◌<◌, ◌≡◌, refl, List, [], ◌∷◌, ◌++◌, length}
-use Rattle.std.proofs.Common.{⊎_elim, add-one, arith, length-append, lt-ltb, le-ltb}
+use Rattle.std.proofs.Common.{◌∙◌, ⊎_elim, add-one, arith, length-append, lt-ltb, le-ltb}
 use Rattle.ground.proofs.OrderLaws.{lt_or_ge}
 use Rattle.ground.specs.Base.{width}
 use Rattle.ground.proofs.BaseLaws.{below_power, width_some, width_few}
+use Rattle.std.specs.Fmt.{decimal as printed}
+use Rattle.std.proofs.lemmas.Fmt.{decimal_by_steps}
 use Rattle.text.specs.Decimal.{digits, decimal, value_after, value_of}
 
 -- The digits of a number, one by one.
@@ -72,3 +74,17 @@ digits_value (suc n) x h =
 pub decimal_value : (x : ℕ) → x < 18446744073709551616 → value_of (decimal x) ≡ x
 unfolding decimal
 decimal_value x h = digits_value 19 x (omega arith)
+
+-- The digits are those that the library writes.
+
+-- digits that are those of every number below 10^n, where n may be any that is large enough
+abbrev Spells : ℕ → List ℕ → Type 0
+Spells x ds = (n : ℕ) → x < 10 ^ suc n → digits (suc n) x ≡ ds
+
+spells_more : (x : ℕ) (ds : List ℕ) → 10 ≤ x → Spells (x / 10) ds → (n : ℕ) → x < 10 ^ suc n → digits (suc n) x ≡ ds ++ ((48 + x % 10) ∷ [])
+spells_more x ds g h zero f = absurd (omega arith)
+spells_more x ds g h (suc n) f = digits_more (suc n) x g ∙ rw (h n (below_power 10 (suc n) x (omega arith) f))
+
+pub decimal_printed : (x : ℕ) → x < 18446744073709551616 → decimal x ≡ printed x
+unfolding decimal
+decimal_printed x h = decimal_by_steps Spells (λ n l k f. digits_last k n l) spells_more x (omega arith) 19 (omega arith)

@@ -3,4 +3,3 @@ pub mod LinesLaws
 pub mod PutLaws
 pub mod Unique
 pub mod Figures
-pub mod Putting

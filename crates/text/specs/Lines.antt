@@ -1,9 +1,8 @@
 -- Lines of text: a word and a number, the same at the end of a line, and the line of a refusal (document 01: "A refusal prints one line,
 -- `refused 7 at 1`: number, detail"). Words are in ASCII codes, and each line ends with one line end.
 -- Assumes nothing.
-use Rattle.std.specs.Prelude.{ℕ, List, [], ◌∷◌, ◌++◌}
-use Rattle.text.specs.declared.Printed.{Printed}
-use Rattle.text.specs.declared.Printed.TheVariants.{Answer, Refusal}
+use Rattle.std.specs.Prelude.{ℕ, List, [], ◌∷◌, ◌++◌, Result, Ok, Err}
+use Rattle.text.specs.declared.Refused.{Refused}
 use Rattle.text.specs.Decimal.{decimal}
 
 -- the line end
@@ -30,6 +29,6 @@ unfoldable pub refusal_line : ℕ → ℕ → List ℕ
 refusal_line number detail = field refused_word number ++ line at_word detail
 
 -- how many bytes there are to print
-abbrev pub bytes_of : Printed → ℕ
-bytes_of (Answer n) = n
-bytes_of (Refusal n) = n
+abbrev pub bytes_of : Result ℕ Refused → ℕ
+bytes_of (Ok n) = n
+bytes_of (Err refused) = refused.length

@@ -1,97 +1,99 @@
-// Text as bytes: decimal numbers, words and the lines made of them, written at a place of a lent buffer. All commands print by these.
+// Text as bytes: decimal numbers, words and the lines made of them, written behind one another on a page. All commands print by these.
 
 #![tactic(auto)]
 
 ghost use Rattle.std.specs.Prelude.{◌+◌, ◌≤◌, length, take};
 ghost use Rattle.text.specs.Decimal.{decimal};
 ghost use Rattle.text.specs.Lines.{field, line, refusal_line};
-ghost use Rattle.text.specs.Contract.{BytesOf, DecimalWidth, Put, HandOver};
+ghost use Rattle.text.specs.Contract.{BytesOf, DecimalWidth, Put, Room, Written, HandOver};
 
-// What a command has to print, with its length in bytes: an answer, or the line of a refusal.
+use itoa::Buffer;
+
+// A command's refusal: the length of its line in bytes.
 #[derive(Clone, Copy)]
-pub enum Printed {
-    Answer(usize),
-    Refusal(usize),
+pub struct Refused {
+    pub length: usize,
 }
 
-// How many bytes there are to print.
-pub fn bytes_of(printed: Printed) -> usize
+// How many bytes there are to print, of an answer or of the line of a refusal.
+pub fn bytes_of(printed: Result<usize, Refused>) -> usize
     ensures { BytesOf printed result }
 {
     match printed {
-        Printed::Answer(n) => n,
-        Printed::Refusal(n) => n,
+        Ok(n) => n,
+        Err(refused) => refused.length,
     }
 }
 
 // How many digits a number takes.
+#[tactic(auto, using(crate::proofs::DecimalLaws::decimal_printed))]
 pub fn decimal_width(x: u64) -> usize
     ensures { DecimalWidth x result }
 {
-    let mut n: usize = 1;
-    let mut rest = x;
-    while 9 < rest {
-        rest = rest / 10;
-        n = n + 1;
+    Buffer::new().format(x).len()
+}
+
+// A lent buffer, and the place in it at which the next bytes are written.
+#[derive(Drop)]
+pub struct Page<'a> {
+    pub bytes: &'a mut [u8],
+    pub at: usize,
+}
+
+impl Page<'_> {
+    // Writes a word.
+    pub fn put_word(&mut self, word: &[u8])
+        requires { Room word.now self.old }
+        ensures { Written word.now self.old self.new }
+    {
+        let end = self.at + word.len();
+        self.bytes[self.at..end].copy_from_slice(word);
+        self.at = end;
     }
-    n
-}
 
-// Writes a number's digits at a place of a buffer that has room for them there, and gives the place behind them; all else stays.
-pub fn put_decimal(x: u64, buf: &mut [u8], at: usize) -> usize
-    requires { at + length (decimal x) ≤ length buf.old }
-    ensures { Put (decimal x) buf.old at result buf.new }
-{
-    let end = at + decimal_width(x);
-    let mut p = end;
-    let mut rest = x;
-    while 10 <= rest {
-        p = p - 1;
-        buf[p] = (48 + rest % 10) as u8;
-        rest = rest / 10;
+    // Writes a number's digits.
+    #[tactic(auto, using(crate::proofs::DecimalLaws::decimal_printed))]
+    pub fn put_decimal(&mut self, x: u64)
+        requires { Room (decimal x) self.old }
+        ensures { Written (decimal x) self.old self.new }
+    {
+        self.put_word(Buffer::new().format(x).as_bytes());
     }
-    buf[at] = (48 + rest) as u8;
-    end
-}
 
-// Writes a word at a place of a buffer that has room for it there, and gives the place behind it; all else stays.
-pub fn put_word(word: &[u8], buf: &mut [u8], at: usize) -> usize
-    requires { at + length word.now ≤ length buf.old }
-    ensures { Put word.now buf.old at result buf.new }
-{
-    let mut i: usize = 0;
-    while i < word.len() {
-        buf[at + i] = word[i];
-        i = i + 1;
+    // Writes a word and behind it a number.
+    pub fn put_field(&mut self, word: &[u8], x: u64)
+        requires { Room (field word.now x) self.old }
+        ensures { Written (field word.now x) self.old self.new }
+    {
+        self.put_word(word);
+        self.put_decimal(x);
     }
-    at + i
-}
 
-// Writes a word and behind it a number at a place of a page that has room for them there, and gives the place behind them.
-pub fn put_field(word: &[u8], x: u64, page: &mut [u8], at: usize) -> usize
-    requires { at + length (field word.now x) ≤ length page.old }
-    ensures { Put (field word.now x) page.old at result page.new }
-{
-    let behind = put_word(word, page, at);
-    put_decimal(x, page, behind)
-}
+    // The same at the end of a line.
+    pub fn put_line(&mut self, word: &[u8], x: u64)
+        requires { Room (line word.now x) self.old }
+        ensures { Written (line word.now x) self.old self.new }
+    {
+        self.put_field(word, x);
+        self.put_word(b"\n");
+    }
 
-// The same at the end of a line.
-pub fn put_line(word: &[u8], x: u64, page: &mut [u8], at: usize) -> usize
-    requires { at + length (line word.now x) ≤ length page.old }
-    ensures { Put (line word.now x) page.old at result page.new }
-{
-    let behind = put_field(word, x, page, at);
-    put_word(b"\n", page, behind)
-}
+    // Writes the line of a refusal.
+    pub fn put_refusal(&mut self, number: u32, detail: usize)
+        requires { Room (refusal_line number detail) self.old }
+        ensures { Written (refusal_line number detail) self.old self.new }
+    {
+        self.put_field(b"refused ", u64::from(number));
+        self.put_line(b" at ", detail as u64);
+    }
 
-// Writes the line of a refusal at a place of a page that has room for it there, and gives the place behind it.
-pub fn put_refusal(number: u32, detail: usize, page: &mut [u8], at: usize) -> usize
-    requires { at + length (refusal_line number detail) ≤ length page.old }
-    ensures { Put (refusal_line number detail) page.old at result page.new }
-{
-    let behind = put_field(b"refused ", number as u64, page, at);
-    put_line(b" at ", detail as u64, page, behind)
+    // Copies what the page has over the front of a lent buffer that has room for it; one that is too short stays as it was.
+    pub fn hand_over(&self, text: &mut [u8])
+        requires { self.now.at ≤ length self.now.bytes.now }
+        ensures { HandOver (take self.now.at self.now.bytes.now) text.old text.new }
+    {
+        hand_over(self.bytes, self.at, text);
+    }
 }
 
 // Copies the first n bytes of a page over the front of a lent buffer that has room for them; one that is too short stays as it was.
@@ -100,6 +102,6 @@ pub fn hand_over(page: &[u8], n: usize, text: &mut [u8])
     ensures { HandOver (take n page.now) text.old text.new }
 {
     if n <= text.len() {
-        put_word(&page[..n], text, 0);
+        text[..n].copy_from_slice(&page[..n]);
     }
 }

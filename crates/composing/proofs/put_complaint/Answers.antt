@@ -1,22 +1,25 @@
 -- `composing::put_complaint` meets its contract: what is wrong is put behind the place.
 -- Assumes nothing.
-use native.Mathlib.Omega.{arith}
-use Rattle.text.proofs.PutLaws.{put_then, room_behind}
-use Rattle.composing.proofs.Complaining.{complaint_parts, complaint_length}
+use Rattle.std.proofs.Common.{arith}
+use Rattle.fields.specs.Refusal.{refusal}
+use Rattle.text.proofs.PutLaws.{room_first, room_then, written_then}
+use Rattle.composing.specs.Composed.{line_of, place_text, fault_text, complaint}
 use Rattle.composing.proofs.put_complaint.Goals as goal
 
-pub put_place-behind-requires : goal.put_place-behind-requires
-put_place-behind-requires c =
-    rw c.line_of.ensures (omega (arith, c.requires.1, complaint_length c.args.text.now c.args.numbers.now c.args.why c.args.place))
+pub put_place-requires : goal.put_place-requires
+unfolding complaint
+put_place-requires c =
+    let place = c.args.refused.at in
+    rw c.line_of.ensures
+    (room_first (place_text (line_of c.args.text.now place) place) (fault_text c.args.numbers.now (refusal c.args.refused.why) place) c.args.page.now c.requires.1)
 
 pub put_fault-requires : goal.put_fault-requires
+unfolding complaint
 put_fault-requires c =
-    let e = c.line_of.ensures in (
-      omega (arith, c.requires.0),
-      rw c.refusal_of.ensures.is
-          (room_behind _ _ _ _ c.put_place-behind.ensures (rw e (omega (arith, c.requires.1, complaint_length c.args.text.now c.args.numbers.now c.args.why c.args.place)))),
-    )
+    let place = c.args.refused.at in
+    let p = rw c.line_of.ensures at c.put_place.ensures in
+    (omega (arith, c.requires.0), room_then (place_text (line_of c.args.text.now place) place) (fault_text c.args.numbers.now (refusal c.args.refused.why) place) p c.requires.1)
 
 pub returns : goal.returns
-returns c =
-    rw (complaint_parts, ← c.line_of.ensures, ← c.refusal_of.ensures.is) (put_then _ _ _ _ c.put_place-behind.ensures c.put_fault.ensures)
+unfolding complaint
+returns c = written_then (rw c.line_of.ensures at c.put_place.ensures) c.put_fault.ensures

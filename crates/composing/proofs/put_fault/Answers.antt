@@ -1,44 +1,46 @@
--- `composing::put_fault` meets its contract: by the number of the refusal; the name and the rest are put behind the opening words.
+-- `composing::put_fault` meets its contract: by the refusal; the name and the rest are put behind the opening words.
 -- Assumes nothing.
-use Prim.Native.Nat.{◌+◌, ◌≤◌}
-use mathlib.Core.Path.{◌≡◌, ap}
-use native.Mathlib.Omega.{arith}
-use lib.ListN.{length}
-use Rattle.text.proofs.PutLaws.{put_then, room_behind}
+use Rattle.std.proofs.Common.{◌≡◌, ◌++◌, rules}
+use Rattle.fields.specs.declared.Why.TheVariants.{Left}
+use Rattle.fields.specs.Refusal.{refusal}
+use Rattle.text.proofs.PutLaws.{room_first, room_then, written_then}
 use Rattle.naming.specs.Names.{extent_in, name_at}
-use Rattle.composing.specs.Composed.{open_word, fault_end}
-use Rattle.composing.proofs.Complaining.{fault_left, fault_named, named_length}
+use Rattle.composing.specs.Composed.{open_word, fault_end, fault_text}
+use Rattle.composing.proofs.Complaining.{fault_named}
 use Rattle.composing.proofs.put_fault.Goals as goal
 
 pub put_word-requires : goal.put_word-requires
-put_word-requires c =
-    rw (fault_left _ _ _ _ c.refusal_of.ensures.is c.if-number-refusal_of.true) at c.requires.1
+unfolding fault_text
+put_word-requires c = let e : c.args.why ≡ Left = search rules in rw e at c.requires.1
 
-pub returns-then-number-refusal_of : goal.returns-then-number-refusal_of
-returns-then-number-refusal_of c =
-    rw (fault_left _ _ _ _ c.refusal_of.ensures.is c.if-number-refusal_of.true) c.put_word.ensures
+pub returns-then-eq : goal.returns-then-eq
+unfolding fault_text
+returns-then-eq c = let e : c.args.why ≡ Left = search rules in rw e c.put_word.ensures
 
-pub put_word-open-requires : goal.put_word-open-requires
-put_word-open-requires c =
-    let all_room : c.args.at + (2 + (length (name_at c.args.place (extent_in c.args.numbers.now)) + length (fault_end c.args.numbers.now c.args.number c.args.place))) ≤ length c.args.page.now = omega (arith, c.requires.1, named_length c.args.numbers.now c.args.number c.args.place _ c.refusal_of.ensures.is c.if-number-refusal_of.false) in
-    omega (arith, all_room)
+pub put_word-requires-else-eq : goal.put_word-requires-else-eq
+put_word-requires-else-eq c =
+    let n : c.args.why ≡ Left → ⊥ = search rules in
+    let xs = c.args.numbers.now in
+    room_first open_word (name_at c.args.place (extent_in xs) ++ fault_end xs (refusal c.args.why) c.args.place) c.args.page.now
+    (rw (fault_named c.args.why n) at c.requires.1)
 
-pub put_name_at-name-requires : goal.put_name_at-name-requires
-put_name_at-name-requires c =
-    let all_room : c.args.at + (2 + (length (name_at c.args.place (extent_in c.args.numbers.now)) + length (fault_end c.args.numbers.now c.args.number c.args.place))) ≤ length c.args.page.now = omega (arith, c.requires.1, named_length c.args.numbers.now c.args.number c.args.place _ c.refusal_of.ensures.is c.if-number-refusal_of.false) in
-    let behind_open : c.put_word-open.result + (length (name_at c.args.place (extent_in c.args.numbers.now)) + length (fault_end c.args.numbers.now c.args.number c.args.place)) ≤ length c.put_word-open.new.buf = room_behind open_word _ _ _ c.put_word-open.ensures all_room in
-    let name_is : name_at c.args.place c.extent_of.result ≡ name_at c.args.place (extent_in c.args.numbers.now) = ap (name_at c.args.place) c.extent_of.ensures.is in
-    (c.requires.0, omega (arith, behind_open, ap length name_is))
+pub put_name_at-requires : goal.put_name_at-requires
+put_name_at-requires c =
+    let n : c.args.why ≡ Left → ⊥ = search rules in
+    let name = name_at c.args.place (extent_in c.args.numbers.now) in
+    let rest = fault_end c.args.numbers.now (refusal c.args.why) c.args.place in
+    let r = room_then open_word (name ++ rest) c.put_word-else-eq.ensures (rw (fault_named c.args.why n) at c.requires.1) in
+    (c.requires.0, rw c.of.ensures.is (room_first name rest c.put_word-else-eq.new.self r))
 
 pub put_end-requires : goal.put_end-requires
 put_end-requires c =
-    let all_room : c.args.at + (2 + (length (name_at c.args.place (extent_in c.args.numbers.now)) + length (fault_end c.args.numbers.now c.args.number c.args.place))) ≤ length c.args.page.now = omega (arith, c.requires.1, named_length c.args.numbers.now c.args.number c.args.place _ c.refusal_of.ensures.is c.if-number-refusal_of.false) in
-    let behind_open : c.put_word-open.result + (length (name_at c.args.place (extent_in c.args.numbers.now)) + length (fault_end c.args.numbers.now c.args.number c.args.place)) ≤ length c.put_word-open.new.buf = room_behind open_word _ _ _ c.put_word-open.ensures all_room in
-    let name_is : name_at c.args.place c.extent_of.result ≡ name_at c.args.place (extent_in c.args.numbers.now) = ap (name_at c.args.place) c.extent_of.ensures.is in
-    (c.requires.0, room_behind _ _ _ _ c.put_name_at-name.ensures (omega (arith, behind_open, ap length name_is)))
+    let n : c.args.why ≡ Left → ⊥ = search rules in
+    let name = name_at c.args.place (extent_in c.args.numbers.now) in
+    let rest = fault_end c.args.numbers.now (refusal c.args.why) c.args.place in
+    let r = room_then open_word (name ++ rest) c.put_word-else-eq.ensures (rw (fault_named c.args.why n) at c.requires.1) in
+    (c.requires.0, room_then name rest (rw c.of.ensures.is at c.put_name_at.ensures) r)
 
-pub returns : goal.returns
-returns c =
-    let name_is : name_at c.args.place c.extent_of.result ≡ name_at c.args.place (extent_in c.args.numbers.now) = ap (name_at c.args.place) c.extent_of.ensures.is in
-    rw (fault_named _ _ _ _ c.refusal_of.ensures.is c.if-number-refusal_of.false, ← name_is)
-    (put_then open_word _ _ _ c.put_word-open.ensures (put_then _ _ _ _ c.put_name_at-name.ensures c.put_end.ensures))
+pub returns-else-eq : goal.returns-else-eq
+returns-else-eq c =
+    let n : c.args.why ≡ Left → ⊥ = search rules in
+    rw (fault_named c.args.why n) (written_then c.put_word-else-eq.ensures (written_then (rw c.of.ensures.is at c.put_name_at.ensures) c.put_end.ensures))

@@ -1,28 +1,31 @@
 -- `composing::put_numbers` meets its contract: the page is never too short for the writer, so it refuses only what is no sheet's list, and leaves the page as it was.
 -- Assumes nothing.
-use mathlib.Core.Path.{◌≡◌, ap, ◌∙◌}
-use native.Mathlib.Omega.{arith}
-use lib.ListN.{length}
-use Rattle.sheet.specs.Sheet.{fail, list_of}
+use Rattle.std.proofs.Common.{Err, ap, ◌∙◌, refl, arith, length}
 use Rattle.sheet.proofs.DetailLaws.{list_place}
-use Rattle.text.specs.declared.Printed.TheVariants.{Refusal}
 use Rattle.composing.proofs.ComposedLaws.{complaint_short}
 use Rattle.composing.proofs.Making.{written, refusing, by_refusal}
 use Rattle.composing.proofs.put_numbers.Goals as goal
 
-pub put_complaint-n-requires : goal.put_complaint-n-requires
-put_complaint-n-requires c =
-    let e : (list_of c.args.numbers.now ≡ fail c.in-Refused.why c.in-Refused.place) × (c.write_sheet.new.bytes ≡ c.args.page.now) = refusing c.args.text.now _ _ _ _ c.requires c.write_sheet.ensures _ _ c.in-Refused.is in
-    (list_place _ _ _ e.0, omega (arith, complaint_short c.args.text.now c.args.numbers.now c.in-Refused.why c.in-Refused.place, ap length e.1, c.requires))
+pub returns-in-Ok : goal.returns-in-Ok
+returns-in-Ok c =
+    let s = written c.args.text.now _ _ _ _ c.requires.room c.write_sheet.ensures _ c.in-Ok.is in
+    record {
+      gives = s.gives;
+      writes = record { put = record { next = omega (arith, s.count, c.requires.empty); stored = rw c.requires.empty s.holds }; same = refl; stays = refl };
+    }
 
-pub returns-in-Done : goal.returns-in-Done
-returns-in-Done c =
-    let e = written c.args.text.now _ _ _ _ c.requires c.write_sheet.ensures _ c.in-Done.is in
-    record { gives = e.0; holds = e.1 }
+pub put_complaint-requires : goal.put_complaint-requires
+put_complaint-requires c =
+    let e = refusing c.args.text.now _ _ _ _ c.requires.room c.write_sheet.ensures _ c.in-Err.is in
+    let short = complaint_short c.args.text.now c.args.numbers.now c.in-Err.refused.why c.in-Err.refused.at in
+    (list_place _ _ _ e.0, omega (arith, short, ap length e.1, c.requires.room, c.requires.empty))
 
-pub returns-in-Refused : goal.returns-in-Refused
-returns-in-Refused c =
-    let e : (list_of c.args.numbers.now ≡ fail c.in-Refused.why c.in-Refused.place) × (c.write_sheet.new.bytes ≡ c.args.page.now) = refusing c.args.text.now _ _ _ _ c.requires c.write_sheet.ensures _ _ c.in-Refused.is in
-    let k = c.put_complaint-n.ensures in
+pub returns-in-Err : goal.returns-in-Err
+returns-in-Err c =
+    let e = refusing c.args.text.now _ _ _ _ c.requires.room c.write_sheet.ensures _ c.in-Err.is in
+    let k = c.put_complaint.ensures in
     let b = by_refusal c.args.text.now c.args.numbers.now _ _ e.0 in
-    record { gives = rw b (ap Refusal (omega (arith, k.next))); holds = k.stored ∙ rw (b, e.1) }
+    record {
+      gives = rw b (ap (λ n. Err (record { length = n })) (omega (arith, k.put.next, c.requires.empty)));
+      writes = rw b (record { put = record { next = k.put.next; stored = k.put.stored ∙ rw e.1 }; same = k.same; stays = k.stays });
+    }

@@ -1,13 +1,8 @@
--- `showing::put_lines` meets its contract. The invariant (`Lining`): putting the lines of the numbers from i on gives what putting all of them at
--- the front would have given. The measure is how many numbers are left.
+-- `showing::put_lines` meets its contract. The invariant: the lines of the first i numbers are written.
 -- Assumes nothing.
-use Prim.Native.Nat.{◌-◌}
-use lib.ListN.{length}
-use Rattle.showing.proofs.Lining.{Lining}
+use Rattle.text.specs.Contract.{Written}
+use Rattle.showing.specs.Shown.{lines_from}
 use Rattle.showing.proofs.put_lines.Given as goal
 
 abbrev pub invariant-loop-i : goal.invariant-loop-i
-invariant-loop-i l = Lining l.numbers l.initial.page l.page l.at l.i
-
-abbrev pub decreases-loop-i : goal.decreases-loop-i
-decreases-loop-i l = length l.numbers - l.i
+invariant-loop-i l = Written (lines_from l.numbers 0 l.i) l.initial.page l.page

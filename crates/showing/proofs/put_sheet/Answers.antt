@@ -1,47 +1,33 @@
 -- `showing::put_sheet` meets its contract: a list of 231 numbers is never too short, so the reader refuses only what the sheet is refused for,
 -- and what it read is valid.
 -- Assumes nothing.
-use mathlib.Core.Path.{◌≡◌, refl, sym, ap, ◌∙◌}
-use native.Mathlib.Omega.{arith}
-use lib.Seq.{length-take-le}
-use Rattle.text.specs.declared.Printed.TheVariants.{Answer, Refusal}
-use Rattle.sheet.specs.Sheet.{sheet_of, fail}
-use Rattle.sheet.proofs.RoomLaws.{Numbers, numbers_read, refused_read}
+use Rattle.std.proofs.Common.{Ok, Err, refl, ap, arith}
+use Rattle.sheet.proofs.RoomLaws.{numbers_read, refused_read}
 use Rattle.showing.specs.Shown.{show_text, show_printed}
 use Rattle.showing.proofs.put_sheet.Goals as goal
 
-pub slice_bounds-numbers-end : goal.slice_bounds-numbers-end
-slice_bounds-numbers-end c =
-    let read : Numbers c.args.bytes.now _ c.read_sheet.new.numbers c.read_sheet.result refl c.read_sheet.ensures.gives c.read_sheet.ensures.holds c.in-Done.n = numbers_read _ _ _ _ refl c.read_sheet.ensures.gives c.read_sheet.ensures.holds _ c.in-Done.is in
-    omega (arith, (read).few, c.read_sheet.auto.numbers)
-
-pub slice_bounds-put_lines-end : goal.slice_bounds-put_lines-end
-slice_bounds-put_lines-end c =
-    let read : Numbers c.args.bytes.now _ c.read_sheet.new.numbers c.read_sheet.result refl c.read_sheet.ensures.gives c.read_sheet.ensures.holds c.in-Done.n = numbers_read _ _ _ _ refl c.read_sheet.ensures.gives c.read_sheet.ensures.holds _ c.in-Done.is in
-    sym (length-take-le _ _ (omega (arith, (read).few, c.read_sheet.auto.numbers)))
-
-pub put_lines-m-requires : goal.put_lines-m-requires
+pub put_lines-requires : goal.put_lines-requires
 unfolding show_text
-put_lines-m-requires c =
-    let read : Numbers c.args.bytes.now _ c.read_sheet.new.numbers c.read_sheet.result refl c.read_sheet.ensures.gives c.read_sheet.ensures.holds c.in-Done.n = numbers_read _ _ _ _ refl c.read_sheet.ensures.gives c.read_sheet.ensures.holds _ c.in-Done.is in
-    record { valid = rw (read).front (read).valid; room = rw (read).front (rw (read).are at c.requires) }
+put_lines-requires c =
+    let read = numbers_read c.args.bytes.now _ c.read_sheet.new.numbers c.read_sheet.result refl c.read_sheet.ensures.gives c.read_sheet.ensures.holds c.in-Ok.n c.in-Ok.is in
+    record { valid = rw read.front read.valid; room = rw read.front (rw read.are at c.requires.room) }
 
-pub put_refusal-m-requires : goal.put_refusal-m-requires
+pub put_refusal-requires : goal.put_refusal-requires
 unfolding show_text
-put_refusal-m-requires c =
-    let refused : sheet_of c.args.bytes.now ≡ fail c.in-Refused.why c.in-Refused.at = refused_read _ _ _ _ refl c.read_sheet.ensures.gives c.read_sheet.ensures.holds _ _ c.in-Refused.is in
-    rw c.refusal_of.ensures.is (omega (arith, rw (refused) at c.requires))
+put_refusal-requires c =
+    let refused = refused_read c.args.bytes.now _ c.read_sheet.new.numbers c.read_sheet.result refl c.read_sheet.ensures.gives c.read_sheet.ensures.holds c.in-Err.refusal.why c.in-Err.refusal.at c.in-Err.is in
+    rw c.refusal_of.ensures.is (rw refused at c.requires.room)
 
-pub returns-in-Done : goal.returns-in-Done
+pub returns-in-Ok : goal.returns-in-Ok
 unfolding show_text show_printed
-returns-in-Done c =
-    let read : Numbers c.args.bytes.now _ c.read_sheet.new.numbers c.read_sheet.result refl c.read_sheet.ensures.gives c.read_sheet.ensures.holds c.in-Done.n = numbers_read _ _ _ _ refl c.read_sheet.ensures.gives c.read_sheet.ensures.holds _ c.in-Done.is in
-    let e = c.put_lines-m.ensures in
-    record { gives = rw ((read).are, ← (read).front) (ap Answer (omega (arith, e.next))); holds = e.stored ∙ rw ((read).are, (read).front) }
+returns-in-Ok c =
+    let read = numbers_read c.args.bytes.now _ c.read_sheet.new.numbers c.read_sheet.result refl c.read_sheet.ensures.gives c.read_sheet.ensures.holds c.in-Ok.n c.in-Ok.is in
+    let e = rw read.front at c.put_lines.ensures in
+    record { gives = rw read.are (ap Ok (omega (arith, e.put.next, c.requires.empty))); writes = rw read.are e }
 
-pub returns-in-Refused : goal.returns-in-Refused
+pub returns-in-Err : goal.returns-in-Err
 unfolding show_text show_printed
-returns-in-Refused c =
-    let refused : sheet_of c.args.bytes.now ≡ fail c.in-Refused.why c.in-Refused.at = refused_read _ _ _ _ refl c.read_sheet.ensures.gives c.read_sheet.ensures.holds _ _ c.in-Refused.is in
-    let e = c.put_refusal-m.ensures in
-    record { gives = rw (refused, ← c.refusal_of.ensures.is) (ap Refusal (omega (arith, e.next))); holds = e.stored ∙ rw (refused, c.refusal_of.ensures.is) }
+returns-in-Err c =
+    let refused = refused_read c.args.bytes.now _ c.read_sheet.new.numbers c.read_sheet.result refl c.read_sheet.ensures.gives c.read_sheet.ensures.holds c.in-Err.refusal.why c.in-Err.refusal.at c.in-Err.is in
+    let e = rw c.refusal_of.ensures.is at c.put_refusal.ensures in
+    record { gives = rw refused (ap (λ n. Err (record { length = n })) (omega (arith, e.put.next, c.requires.empty))); writes = rw refused e }
