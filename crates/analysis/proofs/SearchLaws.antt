@@ -1,9 +1,8 @@
 -- The row of a sheet that passes the checks can be searched, and its search gives what document 01's tree and grid say.
 -- Assumes nothing.
-use Rattle.std.specs.Prelude.{ℕ, ◌-◌, ◌≡◌, List, length}
+use Rattle.std.specs.Prelude.{ℕ, ◌-◌, ◌≡◌, None, List, length}
 use Rattle.sheet.specs.Valid.{server_count, mode, grid, Valid}
 use Rattle.tandem.specs.OfSheet.{tandem_of}
-use Rattle.row.specs.declared.Check.TheVariants.{Passed}
 use Rattle.row.specs.Groups.{groups}
 use Rattle.row.proofs.CheckLaws.{few_points}
 use Rattle.row.specs.OfSheet.{grid_of, row_of, check_of}
@@ -23,7 +22,7 @@ module _ (xs : List ℕ) where
   unfolding row_of
   search_is_searched = row.search_is_searched (tandem_of xs) (mode xs) (grid_of (server_count xs) (grid xs))
 
-  pub searchable : Valid xs → check_of xs ≡ Passed → Searchable (row_of xs)
+  pub searchable : Valid xs → check_of xs ≡ None → Searchable (row_of xs)
   unfolding row_of
   searchable v passed =
       let p = passed_row xs v passed in

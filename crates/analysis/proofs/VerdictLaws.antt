@@ -1,14 +1,15 @@
 -- What the analysis holds is the verdict: a refusal, or the listing of a sheet that passes; and the numbers of both are small.
 -- Assumes nothing.
-use Rattle.std.specs.Prelude.{ℕ, ◌^◌, ◌≤◌, ◌<◌, ◌≡◌, refl, true, false, ◌⊎◌, List, length, get_or}
+use Rattle.std.specs.Prelude.{ℕ, ◌^◌, ◌≤◌, ◌<◌, ◌≡◌, refl, true, false, ◌⊎◌, Option, Some, None, Ok, Err, List, length, get_or}
 use Rattle.std.proofs.Common.{ap, ◌∙◌, inl, inr, arith}
 use Rattle.fields.specs.declared.Why.{Why}
 use Rattle.fields.specs.declared.Why.TheVariants.{Crossing, Crowded, Points}
+use Rattle.fields.specs.Refusal as fields
 use Rattle.sheet.specs.Sheet.{Found, fail, these, sheet_of}
 use Rattle.sheet.specs.Valid.{server_count, mode, grid, Valid}
 use Rattle.sheet.proofs.ValidLaws.{read_valid}
-use Rattle.row.specs.declared.Check.{Check}
-use Rattle.row.specs.declared.Check.TheVariants as check
+use Rattle.row.specs.declared.Unfit.{Unfit}
+use Rattle.row.specs.declared.Unfit.TheVariants as unfit
 use Rattle.tandem.specs.Tandem.{Tandem, size}
 use Rattle.row.specs.Groups.{groups}
 use Rattle.row.proofs.CountLaws.{few_groups}
@@ -27,14 +28,14 @@ use Rattle.tree.proofs.GridLaws.{found_at}
 use Rattle.tree.proofs.SearchLaws.{answer_waits, searched_le_start, searched_start_small, searched_wait_le}
 use Rattle.tree.proofs.LargeLaws.{never_too_large}
 use Rattle.analysis.specs.Verdict.{Listing, grid_used, listing_of, refused, bounded, verdict_on, verdict_of}
-use Rattle.analysis.specs.Held.{blank, filled, numbers_held, analysed_of}
+use Rattle.analysis.specs.Held.{filled, numbers_held, analysed_of}
 
 -- the detail of a check that is not passed is small
-abbrev check_detail : Check → ℕ
-check_detail check.Passed = 0
-check_detail check.Crossing = 0
-check_detail (check.Crowded j) = j
-check_detail (check.Points n) = n
+abbrev check_detail : Option Unfit → ℕ
+check_detail None = 0
+check_detail (Some unfit.Crossing) = 0
+check_detail (Some (unfit.Crowded j)) = j
+check_detail (Some (unfit.Points n)) = n
 
 check_small : (xs : List ℕ) → Valid xs → check_detail (check_of xs) ≤ 48
 check_small xs v = crossing (decide (not_nested row))
@@ -65,27 +66,27 @@ pub data Cause (bytes : List ℕ) (w : Why) (d : ℕ) : Type 0 where
 
 -- the two cases of a sheet's bytes: what the verdict is, and what is held
 pub data Case (bytes : List ℕ) : Type 0 where
-  refusing : (w : Why) (d : ℕ) → Cause bytes w d → verdict_of bytes ≡ refused w d → analysed_of bytes ≡ blank w d → Case bytes
-  listing : (xs : List ℕ) → sheet_of bytes ≡ these xs → Valid xs → check_of xs ≡ check.Passed → verdict_of bytes ≡ bounded (listing_of xs)
-      → analysed_of bytes ≡ filled (row_of xs).groups (listing_of xs) → Case bytes
+  refusing : (w : Why) (d : ℕ) → Cause bytes w d → verdict_of bytes ≡ refused w d → analysed_of bytes ≡ Err (fields.refused w d) → Case bytes
+  listing : (xs : List ℕ) → sheet_of bytes ≡ these xs → Valid xs → check_of xs ≡ None → verdict_of bytes ≡ bounded (listing_of xs)
+      → analysed_of bytes ≡ Ok (filled (row_of xs).groups (listing_of xs)) → Case bytes
 
 -- a row that passes the checks is listed: 9 is never given
-pub passed_listed : (xs : List ℕ) → Valid xs → check_of xs ≡ check.Passed → verdict_on xs ≡ bounded (listing_of xs)
+pub passed_listed : (xs : List ℕ) → Valid xs → check_of xs ≡ None → verdict_on xs ≡ bounded (listing_of xs)
 unfolding verdict_on
 passed_listed xs v e =
     let p = passed_row xs v e in
     rw (e, never_too_large (tandem_of xs) p.accepts p.limited (mode xs) (grid_used xs) (grid_range xs v).0)
 
-pub passed_verdict : (bytes xs : List ℕ) → sheet_of bytes ≡ these xs → Valid xs → check_of xs ≡ check.Passed → verdict_of bytes ≡ bounded (listing_of xs)
+pub passed_verdict : (bytes xs : List ℕ) → sheet_of bytes ≡ these xs → Valid xs → check_of xs ≡ None → verdict_of bytes ≡ bounded (listing_of xs)
 unfolding verdict_of
 passed_verdict bytes xs s v e = rw (s, passed_listed xs v e)
 
-case_row : (bytes xs : List ℕ) → sheet_of bytes ≡ these xs → Valid xs → (c : Check) → check_of xs ≡ c → check_detail c ≤ 48 → Case bytes
+case_row : (bytes xs : List ℕ) → sheet_of bytes ≡ these xs → Valid xs → (c : Option Unfit) → check_of xs ≡ c → check_detail c ≤ 48 → Case bytes
 unfolding verdict_of verdict_on analysed_of numbers_held
-case_row bytes xs s v check.Passed e d = listing xs s v e (passed_verdict bytes xs s v e) (rw (s, passed_listed xs v e))
-case_row bytes xs s v check.Crossing e d = refusing Crossing 0 (of_row (omega arith)) (rw (s, e)) (rw (s, e))
-case_row bytes xs s v (check.Crowded j) e d = refusing Crowded j (of_row d) (rw (s, e)) (rw (s, e))
-case_row bytes xs s v (check.Points n) e d = refusing Points n (of_row d) (rw (s, e)) (rw (s, e))
+case_row bytes xs s v None e d = listing xs s v e (passed_verdict bytes xs s v e) (rw (s, passed_listed xs v e))
+case_row bytes xs s v (Some unfit.Crossing) e d = refusing Crossing 0 (of_row (omega arith)) (rw (s, e)) (rw (s, e))
+case_row bytes xs s v (Some (unfit.Crowded j)) e d = refusing Crowded j (of_row d) (rw (s, e)) (rw (s, e))
+case_row bytes xs s v (Some (unfit.Points n)) e d = refusing Points n (of_row d) (rw (s, e)) (rw (s, e))
 
 pub case_of : (bytes : List ℕ) → Case bytes
 unfolding verdict_of analysed_of
@@ -104,7 +105,7 @@ pub record Small (l : Listing) : Type 0 where
   pub waits : (k : ℕ) → get_or l.waits k 0 < 2 ^ 30
   pub each : length l.waits ≡ length l.paths
 
-pub listing_small : (xs : List ℕ) → Valid xs → check_of xs ≡ check.Passed → Small (listing_of xs)
+pub listing_small : (xs : List ℕ) → Valid xs → check_of xs ≡ None → Small (listing_of xs)
 unfolding listing_of searched
 listing_small xs v passed =
     let row = tandem_of xs in

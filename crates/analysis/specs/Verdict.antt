@@ -1,12 +1,12 @@
 -- What the analysis says of a sheet (document 01, "The sheet", "Refusals by number"): a refusal, or the bound with its record.
 -- Assumes nothing.
-use Rattle.std.specs.Prelude.{ℕ, cond, List, ◌∷◌, length}
+use Rattle.std.specs.Prelude.{ℕ, cond, Option, Some, None, List, ◌∷◌, length}
 use Rattle.fields.specs.declared.Why.{Why}
 use Rattle.fields.specs.declared.Why.TheVariants.{Crossing, Crowded, Points, TooLarge}
 use Rattle.sheet.specs.Sheet.{Found, fail, these, sheet_of, encode_all}
 use Rattle.sheet.specs.Valid.{server_count, mode, grid}
-use Rattle.row.specs.declared.Check.{Check}
-use Rattle.row.specs.declared.Check.TheVariants as check
+use Rattle.row.specs.declared.Unfit.{Unfit}
+use Rattle.row.specs.declared.Unfit.TheVariants as unfit
 use Rattle.tandem.specs.Tandem.{Path}
 use Rattle.row.specs.Groups.{groups}
 use Rattle.tandem.specs.OfSheet.{tandem_of}
@@ -37,11 +37,11 @@ pub data Verdict : Type 0 where
   bounded : Listing → Verdict
 
 -- "then 3, 6, 7, 8, 9": what the checks of a sheet's row say, and behind them 9; the details are "0", "lowest such server", "number of groups", "0"
-abbrev pub verdict_by : Check → List ℕ → Verdict
-verdict_by check.Crossing xs = refused Crossing 0
-verdict_by (check.Crowded j) xs = refused Crowded j
-verdict_by (check.Points n) xs = refused Points n
-verdict_by check.Passed xs = cond (too_large (tandem_of xs) (mode xs) (grid_used xs)) (refused TooLarge 0) (bounded (listing_of xs))
+abbrev pub verdict_by : Option Unfit → List ℕ → Verdict
+verdict_by (Some unfit.Crossing) xs = refused Crossing 0
+verdict_by (Some (unfit.Crowded j)) xs = refused Crowded j
+verdict_by (Some (unfit.Points n)) xs = refused Points n
+verdict_by None xs = cond (too_large (tandem_of xs) (mode xs) (grid_used xs)) (refused TooLarge 0) (bounded (listing_of xs))
 
 -- the verdict on a sheet's numbers
 unfoldable pub verdict_on : List ℕ → Verdict

@@ -1,9 +1,8 @@
 -- What the entry of the analysis gives, once more in the words of the demands: what lies past the first 1,024 bytes never changes it, and a call that
 -- succeeds has answered as demands 2 and 3 say.
 -- Assumes nothing.
-use Rattle.std.specs.Prelude.{ℕ, ◌<◌, ◌≡◌, List, [], ◌++◌, length, take, drop}
+use Rattle.std.specs.Prelude.{ℕ, ◌<◌, ◌≡◌, List, [], ◌++◌, Ok, length, take, drop}
 use Rattle.std.proofs.Common.{sym, ap, ◌∙◌, subst, append_assoc, zero-add, arith}
-use Rattle.numbers.specs.declared.Got.TheVariants.{Number}
 use Rattle.numbers.specs.Seven.{encode, number_at}
 use Rattle.numbers.proofs.SevenLaws.{Bytes, read_written}
 use Rattle.sheet.specs.Sheet.{these, sheet_of}
@@ -49,7 +48,7 @@ answer_of_lem s before r after xs read p d h =
       length_is = d;
       first = rw (h, append_assoc)
           (read_written [] found.best.delay _ (omega (arith, (listing_small xs valid passed).bound))
-          ∙ ap (Number found.best.delay) (zero-add (length (encode found.best.delay))));
+          ∙ ap (λ (n : ℕ). Ok (found.best.delay, n)) (zero-add (length (encode found.best.delay))));
       chosen = searched_chosen (tandem_of xs) ok (mode xs) (grid_used xs) valid.modes.most (omega (arith, (grid_range xs valid).0));
       on_time = demand_three s xs read passed;
       in_order = demand_three_in_order s xs read passed;
@@ -70,11 +69,12 @@ answered s before r after call h = by (success_says s before r after call h)
 -- so the number that stands first in the buffer bounds every run on the sheet's row that keeps the premises: each watched byte is out in time, and byte
 -- for byte, in order
 pub first_bounds : (s before : List ℕ) (r : ℕ) (after : List ℕ) → Answered s before r after → (xs : List ℕ) → sheet_of s ≡ these xs
-    → (d next : ℕ) → number_at after 0 ≡ Number d next → {B : Type 0} (run : Run B) (H : ℕ) → Keeps (tandem_of xs) run H
+    → (d next : ℕ) → number_at after 0 ≡ Ok (d, next) → {B : Type 0} (run : Run B) (H : ℕ) → Keeps (tandem_of xs) run H
     → OnTime (tandem_of xs) run H d × Within run H 1 (size (tandem_of xs)) d
 first_bounds s before r after a xs read d next e run H keeps =
     let x : xs ≡ a.numbers = cc (a.read, read) in
-    let b : a.best.delay ≡ d = cc (a.first, e) in
+    let p : ◌≡◌ {A = ℕ × ℕ} (a.best.delay, length (encode a.best.delay)) (d, next) = cc (a.first, e) in
+    let b : a.best.delay ≡ d = ap (λ (p : ℕ × ℕ). p.0) p in
     let k = subst (λ (xs : List ℕ). Keeps (tandem_of xs) run H) x keeps in
     subst (λ (xs : List ℕ). OnTime (tandem_of xs) run H d × Within run H 1 (size (tandem_of xs)) d) (sym x)
     (subst (λ (d : ℕ). OnTime (tandem_of a.numbers) run H d × Within run H 1 (size (tandem_of a.numbers)) d) b (a.on_time run H k, a.in_order run H k))

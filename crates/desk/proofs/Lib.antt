@@ -4,5 +4,4 @@ pub mod SaysLaws
 pub mod DemandLaws
 pub mod EntryLaws
 pub mod Figures
-pub mod Recording
 pub mod Answering

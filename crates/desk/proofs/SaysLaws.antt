@@ -1,7 +1,7 @@
 -- The entry of the analysis answers exactly as Says.antt has it: so a refusal writes nothing, 9 is never given, and 6, 7 and 8 are given exactly where
 -- their sentences hold and no earlier refusal does.
 -- Assumes nothing.
-use Rattle.std.specs.Prelude.{ℕ, ◌≤◌, ◌<◌, ◌≡◌, ◌⊎◌, true, false, List, length}
+use Rattle.std.specs.Prelude.{ℕ, ◌≤◌, ◌<◌, ◌≡◌, ◌⊎◌, true, false, None, List, length}
 use Rattle.std.proofs.Math.Path.{refl}
 use Rattle.std.proofs.Common.{sym, ap, ◌∙◌, subst, inl, inr, true≢false, arith, lt-ltb, le-ltb}
 use Rattle.ground.proofs.OrderLaws.{lt_or_ge, le_or_lt}
@@ -12,7 +12,6 @@ use Rattle.sheet.specs.Sheet.{Found, fail, these, sheet_of}
 use Rattle.sheet.specs.Valid.{mode}
 use Rattle.sheet.proofs.ValidLaws.{read_valid}
 use Rattle.sheet.proofs.AcceptLaws.{read_refused}
-use Rattle.row.specs.declared.Check.TheVariants as check
 use Rattle.tandem.specs.Tandem.{Tandem, size}
 use Rattle.row.specs.Groups.{groups}
 use Rattle.tandem.specs.Crowded.{lowest_crowded, Lowest}
@@ -57,7 +56,7 @@ module _ (s xs : List ℕ) (read : sheet_of s ≡ these xs) where
   eight_verdict n u m =
       rw (read, points_third xs (nested n) (crowded_none (tandem_of xs) u) (points_too_many (tandem_of xs) (mode xs) (grid_used xs) m.0 m.1))
 
-  pub passes : Passes xs → check_of xs ≡ check.Passed
+  pub passes : Passes xs → check_of xs ≡ None
   passes p =
       passed_last xs (nested p.nested) (crowded_none (tandem_of xs) p.uncrowded)
       (not_passed (too_many (tandem_of xs) (mode xs) (grid_used xs)) (λ e. p.few_points (too_many_points (tandem_of xs) (mode xs) (grid_used xs) e)))

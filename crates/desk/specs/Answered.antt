@@ -1,8 +1,7 @@
 -- DEMANDS 2 AND 3 of a call of the analysis that succeeds, of what it gave and of what its buffer holds: the numbers of the answer record, where on
 -- the grid they stand and what the bound bounds, and that no run breaks it. DemandLaws.antt proves it of every such call.
 -- Assumes nothing.
-use Rattle.std.specs.Prelude.{ℕ, ◌≡◌, List, ◌∷◌, ◌++◌, length, drop}
-use Rattle.numbers.specs.declared.Got.TheVariants.{Number}
+use Rattle.std.specs.Prelude.{ℕ, ◌≡◌, List, ◌∷◌, ◌++◌, Ok, length, drop}
 use Rattle.numbers.specs.Seven.{encode, number_at}
 use Rattle.sheet.specs.Sheet.{these, sheet_of, encode_all}
 use Rattle.sheet.specs.Valid.{mode}
@@ -30,7 +29,7 @@ pub record Answered (s before : List ℕ) (r : ℕ) (after : List ℕ) : Type 1 
   pub length_is : r ≡ length (answer_record numbers start best)
   pub record_is : after ≡ answer_record numbers start best ++ drop r before
   -- so the number that stands first is the bound
-  pub first : number_at after 0 ≡ Number best.delay (length (encode best.delay))
+  pub first : number_at after 0 ≡ Ok (best.delay, length (encode best.delay))
   -- DEMAND 2: the point with the least delay, the first on a tie; in mode 1 the first point
   pub chosen : Chosen (tandem_of numbers) (mode numbers) (grid_used numbers) start best
   -- DEMAND 3: in every run that keeps the premises each watched byte is out in time; and byte for byte, in order

@@ -2,7 +2,6 @@
 -- Assumes nothing.
 use Rattle.std.specs.Prelude.{ℕ, ◌≤◌, ◌<◌, ◌≡◌, List, ◌∷◌, length, get_or, take}
 use Rattle.analysis.specs.declared.Analysed.{Analysed}
-use Rattle.desk.specs.declared.Record.{Record}
 
 -- the numbers of an answer record, from what the analysis holds
 abbrev pub record_in : Analysed → List ℕ
@@ -16,9 +15,3 @@ pub record Fits (a : Analysed) : Type 0 where
   pub few : a.count ≤ 31
   pub waits : (k : ℕ) → k < a.count → get_or a.waits k 0 < 4294967296
   pub long : length a.waits ≡ 32
-
--- an array whose front holds them
-pub record Recorded (r : Record) (numbers : List ℕ) : Type 0 where
-  pub front : take r.count r.numbers ≡ numbers
-  pub few : r.count ≤ 36
-  pub long : length r.numbers ≡ 36

@@ -1,6 +1,6 @@
 -- The report of P7, which document 01 prints in full, the report of P8, whose groups differ, and the refusals of P10 and of a sheet with no byte.
 -- Assumes nothing.
-use Rattle.std.specs.Prelude.{◌≡◌, refl, List, [], ◌∷◌, ◌++◌, ℕ}
+use Rattle.std.specs.Prelude.{◌≡◌, refl, List, [], ◌∷◌, ◌++◌, Ok, Err, ℕ}
 use Rattle.numbers.specs.Seven.{number_at}
 use Rattle.fields.specs.Rule.{rule_at, field_at, seen_after}
 use Rattle.fields.specs.Step.{step_on}
@@ -19,7 +19,6 @@ use Rattle.tree.specs.Tree.{stretch_from, top, tree}
 use Rattle.tree.specs.Bound.{bound, waits, answer_at, searched}
 use Rattle.tree.specs.Plan.{plan, node_of, node_curve, along, top_of}
 use Rattle.tree.specs.Large.{too_large, large_at, some, large_node, large_curve}
-use Rattle.text.specs.declared.Printed.TheVariants.{Answer, Refusal}
 use Rattle.text.specs.Decimal.{decimal}
 use Rattle.text.specs.Lines.{field, line, refusal_line}
 use Rattle.analysis.specs.Verdict.{listing_of, verdict_on, verdict_of}
@@ -88,13 +87,13 @@ unfolding report_of refusal_line line field decimal verdict_of verdict_on sheet_
 report0 = refl
 
 -- a report is an answer of so many bytes, and a refusal is none
-pub printed7 : printed_of (verdict_of sheet7) ≡ Answer 40
+pub printed7 : printed_of (verdict_of sheet7) ≡ Ok 40
 unfolding printed_of report_of refusal_line figure_lines group_lines group_line line field decimal verdict_of verdict_on listing_of searched found_of steps_of listed
     points_of better answer_at bound waits tree top stretch_from curve after_group group_wait server neutral joined ceil greatest catch_up least_wait remainder
     lateness delay total any crosses on bursts rates used from from_on groups grouped reads overlaps not_nested crowded lowest_crowded too_many too_large
     large_at some large_node large_curve plan node_of node_curve along top_of tandem_of grid_of check_of sheet_of step_on rule_at field_at seen_after number_at
 printed7 = refl
 
-pub printed0 : printed_of (verdict_of []) ≡ Refusal 15
+pub printed0 : printed_of (verdict_of []) ≡ Err (record { length = 15 })
 unfolding printed_of report_of refusal_line line field decimal verdict_of verdict_on sheet_of step_on rule_at field_at seen_after number_at
 printed0 = refl

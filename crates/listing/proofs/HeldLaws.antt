@@ -1,19 +1,17 @@
 -- The record's text is the verdict's: both go by the same two cases of a sheet's bytes; and a report has room on a page.
 -- Assumes nothing.
-use Rattle.std.specs.Prelude.{ℕ, zero, suc, ◌-◌, ◌≤◌, ◌≡◌, refl, List, [], ◌∷◌, ◌++◌, map, length, replicate}
+use Rattle.std.specs.Prelude.{ℕ, zero, suc, ◌-◌, ◌≤◌, ◌≡◌, refl, List, [], ◌∷◌, ◌++◌, Result, Ok, Err, map, length, replicate}
 use Rattle.std.proofs.Common.{ap, arith}
-use Rattle.fields.specs.declared.Why.{Why}
+use Rattle.fields.specs.declared.Refusal.{Refusal}
 use Rattle.fields.specs.Refusal.{refusal}
 use Rattle.tandem.specs.declared.Flow.{Flow}
 use Rattle.tandem.specs.Tandem.{Tandem, Path}
 use Rattle.tandem.specs.OfSheet.{tandem_of}
 use Rattle.row.specs.Groups.{groups, grouped, reads}
 use Rattle.row.specs.OfSheet.{row_of}
-use Rattle.text.specs.declared.Printed.{Printed}
-use Rattle.text.specs.declared.Printed.TheVariants.{Answer, Refusal}
+use Rattle.text.specs.declared.Refused.{Refused}
 use Rattle.text.specs.Lines.{refusal_line, bytes_of}
 use Rattle.text.proofs.LinesLaws.{refusal_short}
-use Rattle.analysis.specs.declared.Judged.TheVariants.{Refused, Bounded}
 use Rattle.analysis.specs.declared.Analysed.{Analysed}
 use Rattle.analysis.specs.Verdict.{listing_of, Verdict, refused, bounded, verdict_of}
 use Rattle.analysis.specs.Held.{filled, analysed_of}
@@ -24,14 +22,12 @@ use Rattle.listing.proofs.TextLaws.{groups_short, figures_short}
 use Rattle.listing.specs.Held.{lines_of, groups_held, listing_held, text_held, printed_held}
 
 -- the record's text and what is printed of it, by what the analysis says
-pub held_listing : (a : Analysed) → a.judged ≡ Bounded → (text_held a ≡ listing_held a) × (printed_held a ≡ Answer (length (text_held a)))
-unfolding text_held printed_held
-held_listing a e = (rw e, rw e)
+pub held_listing : (r : Result Analysed Refusal) (a : Analysed) → r ≡ Ok a → (text_held r ≡ listing_held a) × (printed_held r ≡ Ok (length (text_held r)))
+held_listing r a e = (rw e, rw e)
 
-pub held_refusal : (a : Analysed) (w : Why) (d : ℕ) → a.judged ≡ Refused w d
-    → (text_held a ≡ refusal_line (refusal w) d) × (printed_held a ≡ Refusal (length (text_held a)))
-unfolding text_held printed_held
-held_refusal a w d e = (rw e, rw e)
+pub held_refusal : (r : Result Analysed Refusal) (x : Refusal) → r ≡ Err x
+    → (text_held r ≡ refusal_line (refusal x.why) x.at) × (printed_held r ≡ Err (record { length = length (text_held r) }))
+held_refusal r x e = (rw e, rw e)
 
 -- the groups as flows, and the waits filled up with m zeros, say the groups' lines
 lines_are : (row : Tandem) (gs : List Path) (none : List Flow) (waits : List ℕ) (m : ℕ)
@@ -48,7 +44,7 @@ groups_are xs = lines_are (tandem_of xs) (groups (tandem_of xs)) _ (listing_of x
 
 -- THE LAW: what the analysis holds is said, and told from a refusal, as its verdict is
 pub text_is : (bytes : List ℕ) → (text_held (analysed_of bytes) ≡ report_of (verdict_of bytes)) × (printed_held (analysed_of bytes) ≡ printed_of (verdict_of bytes))
-unfolding text_held report_of printed_held printed_of
+unfolding report_of printed_of
 text_is bytes = by (case_of bytes)
   where
     by : Case bytes → (text_held (analysed_of bytes) ≡ report_of (verdict_of bytes)) × (printed_held (analysed_of bytes) ≡ printed_of (verdict_of bytes))
@@ -56,12 +52,12 @@ text_is bytes = by (case_of bytes)
     by (listing xs s ok p v h) = (rw (v, h, groups_are xs), rw (v, h, groups_are xs))
 
 -- at most 31 groups
-pub held_few : (bytes : List ℕ) → (analysed_of bytes).count ≤ 31
-held_few bytes = by (case_of bytes)
+pub held_few : (bytes : List ℕ) (a : Analysed) → analysed_of bytes ≡ Ok a → a.count ≤ 31
+held_few bytes a e = by (case_of bytes)
   where
-    by : Case bytes → (analysed_of bytes).count ≤ 31
-    by (refusing w d c v h) = rw h (omega arith)
-    by (listing xs s ok p v h) = rw h (listing_small xs ok p).few
+    by : Case bytes → a.count ≤ 31
+    by (refusing w d c v h) = absurd (cc (e, h))
+    by (listing xs s ok p v h) = let q : a ≡ filled (row_of xs).groups (listing_of xs) = cc (e, h) in rw q (listing_small xs ok p).few
 
 -- a report has room on a page
 pub text_short : (bytes : List ℕ) → length (report_of (verdict_of bytes)) ≤ page_most
@@ -86,5 +82,5 @@ printed_bytes (refused w d) = refl
 printed_bytes (bounded l) = refl
 
 -- so a page has room for what `report` gives to print
-pub report_fits : {bytes before after : List ℕ} {r : Printed} → Report bytes before r after → bytes_of r ≤ page_most
+pub report_fits : {bytes before after : List ℕ} {r : Result ℕ Refused} → Report bytes before r after → bytes_of r ≤ page_most
 report_fits {bytes} h = omega (arith, ap bytes_of h.gives, printed_bytes (verdict_of bytes), text_short bytes)

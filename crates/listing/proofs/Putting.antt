@@ -1,86 +1,67 @@
--- Bytes that are put behind one another on a page: as a whole they are put at the first place. And the loop over the groups' lines.
+-- The loop over the groups' lines.
 -- Assumes nothing.
-use Prim.Native.Nat.{ℕ, zero, suc, ◌+◌, ◌≤◌, ◌<◌}
-use mathlib.Core.Path.{◌≡◌, refl, sym, ap, ◌∙◌}
-use mathlib.Core.List.{List, [], ◌++◌}
-use native.Mathlib.Numerals.{add-one}
-use native.Mathlib.Omega.{arith}
-use lib.ListN.{length, get_or, drop, length-append}
-use lib.Seq.{sets, drop-cons}
-use Rattle.tandem.specs.Tandem.{no_flow}
+use Rattle.std.specs.Prelude.{ℕ, zero, suc, ◌+◌, ◌≤◌, ◌<◌, ◌≡◌, refl, ◌⊎◌, List, [], ◌∷◌, ◌++◌, length}
+use Rattle.std.proofs.Common.{sym, ap, ◌∙◌, subst, inl, inr, append_assoc, append-nil, arith}
+use Rattle.text.specs.declared.Page.{Page}
+use Rattle.text.specs.Contract.{Room, Written}
+use Rattle.text.proofs.PutLaws.{room_first, room_then, written_then, written_none}
 use Rattle.tandem.specs.declared.Flow.{Flow}
 use Rattle.listing.specs.Text.{group_line}
-use Rattle.text.specs.Contract.{Put}
-use Rattle.ground.proofs.BufferLaws.{sets_append}
-use Rattle.text.proofs.PutLaws.{put_then, put_long}
 use Rattle.listing.specs.Held.{lines_of}
 
-pub put_three : (a b c before : List ℕ) (at : ℕ) {first second after : List ℕ} {p q r : ℕ} → Put a before at p first → Put b first p q second
-    → Put c second q r after → Put (a ++ (b ++ c)) before at r after
-put_three a b c before at {first} {second} {after} {p} {q} {r} x y z = put_then a (b ++ c) before at x (put_then b c first p y z)
+-- of all lines, those that are written since a page, and those of the first n of the groups that are left, which have waits enough
+pub record Filling (all : List ℕ) (n : ℕ) (groups : List Flow) (waits : List ℕ) (before after : Page) : Type 0 where
+  pub lines : List ℕ
+  pub written : Written lines before after
+  pub whole : lines ++ lines_of n groups waits ≡ all
+  pub enough : length groups ≤ length waits
 
-pub put_four : (a b c d before : List ℕ) (at : ℕ) {first second third after : List ℕ} {p q r e : ℕ} → Put a before at p first → Put b first p q second
-    → Put c second q r third → Put d third r e after → Put (a ++ (b ++ (c ++ d))) before at e after
-put_four a b c d before at {first} {second} {third} {after} {p} {q} {r} {e} x y z w =
-    put_then a (b ++ (c ++ d)) before at x (put_three b c d first p y z w)
+pub begin_filling : {all : List ℕ} {n : ℕ} {groups : List Flow} {waits : List ℕ} (page : Page) → lines_of n groups waits ≡ all → length groups ≤ length waits
+    → Filling all n groups waits page page
+begin_filling page e l = record { lines = []; written = written_none page; whole = e; enough = l }
 
--- the lines of the groups: what is left to put is the lines of the groups from i on
-pub record Filling (groups : List Flow) (waits : List ℕ) (n : ℕ) (first : List ℕ) (from : ℕ) (page : List ℕ) (at i : ℕ) : Type 0 where
-  pub left : ℕ
-  pub turns : i + left ≡ n
-  pub place : at + length (lines_of left (drop (suc i) groups) (drop i waits)) ≡ from + length (lines_of n (drop 1 groups) waits)
-  pub same : sets first from (lines_of n (drop 1 groups) waits) ≡ sets page at (lines_of left (drop (suc i) groups) (drop i waits))
-  pub long : length page ≡ length first
+-- a group's line, with its wait
+abbrev pub line_of : Flow → ℕ → List ℕ
+line_of g wait = group_line g.first g.last wait
 
-pub begin_filling : (groups : List Flow) (waits : List ℕ) (n : ℕ) (first : List ℕ) (from : ℕ) → Filling groups waits n first from first from 0
-begin_filling groups waits n first from = record { left = n; turns = omega arith; place = refl; same = refl; long = refl }
-
--- the line of group i + 1 of the list, whose wait is number i
-abbrev pub line_at : List Flow → List ℕ → ℕ → List ℕ
-line_at groups waits i = group_line (get_or groups (i + 1) no_flow).first (get_or groups (i + 1) no_flow).last (get_or waits i 0)
-
-lines_next : (groups : List Flow) (waits : List ℕ) (i k : ℕ) → suc i < length groups → i < length waits
-    → lines_of (suc k) (drop (suc i) groups) (drop i waits) ≡ line_at groups waits i ++ lines_of k (drop (suc (i + 1)) groups) (drop (i + 1) waits)
+lines_next : (n m : ℕ) (g : Flow) (groups : List Flow) (w : ℕ) (waits : List ℕ) → m + 1 ≡ n
+    → lines_of n (g ∷ groups) (w ∷ waits) ≡ line_of g w ++ lines_of m groups waits
 unfolding lines_of
-lines_next groups waits i k g w = rw (drop-cons groups (suc i) no_flow g, drop-cons waits i 0 w, add-one i)
+lines_next zero m g groups w waits e = absurd (omega arith)
+lines_next (suc k) m g groups w waits e = let same : m ≡ k = omega arith in rw same
 
--- what is left where another group is to come
-pub record More (groups : List Flow) (waits : List ℕ) (n i left : ℕ) : Type 0 where
-  pub rest : ℕ
-  pub turns : (i + 1) + rest ≡ n
-  pub next : lines_of left (drop (suc i) groups) (drop i waits) ≡ line_at groups waits i ++ lines_of rest (drop (suc (i + 1)) groups) (drop (i + 1) waits)
+-- a turn: the next group, and the others behind it
+module _ {all : List ℕ} {n : ℕ} {groups rest : List Flow} {waits others : List ℕ} {before after : Page} (g : Flow) (w m : ℕ)
+    (f : Filling all n groups waits before after) (gs : groups ≡ g ∷ rest) (ws : waits ≡ w ∷ others) (one : m + 1 ≡ n) where
+  next : f.lines ++ (line_of g w ++ lines_of m rest others) ≡ all
+  next = rw (← lines_next n m g rest w others one, ← gs, ← ws) f.whole
 
-more : (left : ℕ) (groups : List Flow) (waits : List ℕ) (n i : ℕ) → i + left ≡ n → i < n → suc i < length groups → i < length waits → More groups waits n i left
-more zero groups waits n i e h g w = absurd (omega arith)
-more (suc k) groups waits n i e h g w = record { rest = k; turns = omega arith; next = lines_next groups waits i k g w }
+  pub turn_room : Room all before → Room (line_of g w) after
+  turn_room room =
+      room_first (line_of g w) (lines_of m rest others) after
+      (room_then f.lines (line_of g w ++ lines_of m rest others) f.written (rw next room))
 
-module _ {groups : List Flow} {waits first page : List ℕ} {n from at i : ℕ} (f : Filling groups waits n first from page at i) where
-  pub fits : i < n → suc i < length groups → i < length waits → from + length (lines_of n (drop 1 groups) waits) ≤ length first
-      → at + length (line_at groups waits i) ≤ length page
-  fits h g w r =
-      let m = more f.left groups waits n i f.turns h g w in
-      omega (arith, f.place, f.long, ap length m.next, length-append (line_at groups waits i) (lines_of m.rest (drop (suc (i + 1)) groups) (drop (i + 1) waits)))
+  pub turn : {page : Page} → Written (line_of g w) after page → Filling all m rest others before page
+  turn x = record {
+    lines = f.lines ++ line_of g w;
+    written = written_then f.written x;
+    whole = append_assoc f.lines (line_of g w) (lines_of m rest others) ∙ next;
+    enough = omega (arith, f.enough, ap length gs, ap length ws);
+  }
 
-  pub turn_filling : {page' : List ℕ} {at' : ℕ} → i < n → suc i < length groups → i < length waits
-      → Put (line_at groups waits i) page at at' page' → Filling groups waits n first from page' at' (i + 1)
-  turn_filling {page'} {at'} h g w p =
-      let m = more f.left groups waits n i f.turns h g w in
-      let rest = lines_of m.rest (drop (suc (i + 1)) groups) (drop (i + 1) waits) in
-      record {
-        left = m.rest;
-        turns = m.turns;
-        place = omega (arith, f.place, ap length m.next, length-append (line_at groups waits i) rest, p.next);
-        same = f.same ∙ rw (m.next, sets_append page at (line_at groups waits i) rest, ← p.stored, ← p.next);
-        long = put_long (line_at groups waits i) page at p ∙ f.long;
-      }
-
-ended : (left : ℕ) (groups : List Flow) (waits : List ℕ) (n i : ℕ) → i + left ≡ n → n ≤ i → lines_of left (drop (suc i) groups) (drop i waits) ≡ []
+none_left : (n : ℕ) (groups : List Flow) (waits : List ℕ) → length groups ≤ length waits → (0 < n → (groups ≡ []) ⊎ (waits ≡ [])) → lines_of n groups waits ≡ []
 unfolding lines_of
-ended zero groups waits n i e h = refl
-ended (suc k) groups waits n i e h = absurd (omega arith)
+none_left zero groups waits e h = refl
+none_left (suc k) [] waits e h = refl
+none_left (suc k) (g ∷ groups) waits e h = by (h (omega arith))
+  where
+    by : ((g ∷ groups) ≡ []) ⊎ (waits ≡ []) → lines_of (suc k) (g ∷ groups) waits ≡ []
+    by (inl q) = absurd (cc)
+    by (inr q) = absurd (omega (arith, ap length q))
 
-pub filled : {groups : List Flow} {waits first page : List ℕ} {n from at i : ℕ} → Filling groups waits n first from page at i → n ≤ i
-    → Put (lines_of n (drop 1 groups) waits) first from at page
-filled {groups} {waits} {first} {page} {n} {from} {at} {i} f h =
-    let e = ended f.left groups waits n i f.turns h in
-    record { next = omega (arith, f.place, ap length e); stored = sym (f.same ∙ rw e) }
+-- the end: no group is left
+pub filled : {all : List ℕ} {n : ℕ} {groups : List Flow} {waits : List ℕ} {before after : Page} → Filling all n groups waits before after
+    → (0 < n → (groups ≡ []) ⊎ (waits ≡ [])) → Written all before after
+filled {all} {n} {groups} {waits} {before} {after} f h =
+    let e : f.lines ≡ all = sym (append-nil f.lines) ∙ ap (λ (l : List ℕ). f.lines ++ l) (sym (none_left n groups waits f.enough h)) ∙ f.whole in
+    subst (λ (l : List ℕ). Written l before after) e f.written

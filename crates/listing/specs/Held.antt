@@ -1,15 +1,13 @@
--- The same text from the record `Analysed` of the code, which holds the watched flow before the groups and fills its lists up.
+-- The same text from what the code holds of a verdict: its record `Analysed` has the watched flow before the groups and fills its lists up.
 -- Assumes nothing.
-use Rattle.std.specs.Prelude.{ℕ, zero, suc, List, [], ◌∷◌, ◌++◌, length, drop}
-use Rattle.text.specs.declared.Printed.{Printed}
-use Rattle.text.specs.declared.Printed.TheVariants.{Answer, Refusal}
+use Rattle.std.specs.Prelude.{ℕ, zero, suc, List, [], ◌∷◌, ◌++◌, Result, Ok, Err, length, drop}
+use Rattle.text.specs.declared.Refused.{Refused}
 use Rattle.text.specs.Lines.{refusal_line}
+use Rattle.fields.specs.declared.Refusal.{Refusal}
 use Rattle.fields.specs.Refusal.{refusal}
 use Rattle.tandem.specs.declared.Flow.{Flow}
 use Rattle.tree.specs.Plan.{head_of, tail_of}
 use Rattle.analysis.specs.declared.Analysed.{Analysed}
-use Rattle.analysis.specs.declared.Judged.{Judged}
-use Rattle.analysis.specs.declared.Judged.TheVariants.{Refused, Bounded}
 use Rattle.listing.specs.Text.{group_line, figure_lines}
 
 -- the lines of the first n of these groups and waits
@@ -26,16 +24,13 @@ abbrev pub listing_held : Analysed → List ℕ
 listing_held a = figure_lines a.bound a.start a.grid (groups_held a)
 
 -- by what the analysis says
-abbrev pub text_where : Judged → Analysed → List ℕ
-text_where (Refused w d) a = refusal_line (refusal w) d
-text_where Bounded a = listing_held a
+abbrev pub text_held : Result Analysed Refusal → List ℕ
+text_held (Ok a) = listing_held a
+text_held (Err r) = refusal_line (refusal r.why) r.at
 
-unfoldable pub text_held : Analysed → List ℕ
-text_held a = text_where a.judged a
+abbrev pub printed_where : Result Analysed Refusal → ℕ → Result ℕ Refused
+printed_where (Ok a) n = Ok n
+printed_where (Err r) n = Err (record { length = n })
 
-abbrev pub printed_where : Judged → ℕ → Printed
-printed_where (Refused w d) n = Refusal n
-printed_where Bounded n = Answer n
-
-unfoldable pub printed_held : Analysed → Printed
-printed_held a = printed_where a.judged (length (text_held a))
+abbrev pub printed_held : Result Analysed Refusal → Result ℕ Refused
+printed_held a = printed_where a (length (text_held a))

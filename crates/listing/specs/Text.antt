@@ -1,9 +1,8 @@
 -- The report's text (document 01, "Figures to hold it to"): "bound and start in slots; the grid used; then each group's first and last server
 -- and its wait in slots", or "A refusal prints one line: number, detail". Words are in ASCII codes, and each line ends with one line end.
 -- Assumes nothing.
-use Rattle.std.specs.Prelude.{ℕ, List, [], ◌∷◌, ◌++◌, length}
-use Rattle.text.specs.declared.Printed.{Printed}
-use Rattle.text.specs.declared.Printed.TheVariants.{Answer, Refusal}
+use Rattle.std.specs.Prelude.{ℕ, List, [], ◌∷◌, ◌++◌, Result, Ok, Err, length}
+use Rattle.text.specs.declared.Refused.{Refused}
 use Rattle.text.specs.Lines.{field, line, refusal_line}
 use Rattle.fields.specs.Refusal.{refusal}
 use Rattle.tandem.specs.Tandem.{Path}
@@ -53,9 +52,9 @@ report_of (refused w d) = refusal_line (refusal w) d
 report_of (bounded l) = figure_lines l.bound l.start l.grid (group_lines l.paths l.waits)
 
 -- what there is to print of it: the listing is an answer
-unfoldable pub printed_of : Verdict → Printed
-printed_of (refused w d) = Refusal (length (report_of (refused w d)))
-printed_of (bounded l) = Answer (length (report_of (bounded l)))
+unfoldable pub printed_of : Verdict → Result ℕ Refused
+printed_of (refused w d) = Err (record { length = length (report_of (refused w d)) })
+printed_of (bounded l) = Ok (length (report_of (bounded l)))
 
 -- every report has room on a page of so many bytes
 abbrev pub page_most : ℕ

@@ -1,7 +1,7 @@
 -- One run of P1 that keeps every premise, and in which thirty watched bytes are inside the row at the end of slot 2: the backlog is reached, and what is
 -- said of the bytes inside is said of every slot of the record.
 -- Assumes nothing.
-use Rattle.std.specs.Prelude.{ℕ, ◌≡◌, refl, [], ◌∷◌, map}
+use Rattle.std.specs.Prelude.{◌≡◌, refl, [], ◌∷◌, map, None}
 use Rattle.std.proofs.Common.{arith}
 use Rattle.numbers.specs.Seven.{number_at}
 use Rattle.fields.specs.Rule.{rule_at, seen_after, field_at}
@@ -10,7 +10,6 @@ use Rattle.sheet.specs.Sheet.{sheet_of, these}
 use Rattle.sheet.proofs.ValidLaws.{read_valid}
 use Rattle.curves.specs.Slots.{bucket, serve}
 use Rattle.curves.specs.Curve.{neutral, joined, greatest, backlog, server as serverShape}
-use Rattle.row.specs.declared.Check.TheVariants.{Passed}
 use Rattle.row.proofs.OfSheetLaws.{passed_row}
 use Rattle.tandem.specs.Sums.{total, any}
 use Rattle.tandem.specs.Tandem.{crosses, on, rates}
@@ -34,7 +33,7 @@ pub sheet_read : sheet_of sheet ≡ these sheet
 unfolding sheet_of step_on rule_at seen_after field_at number_at
 sheet_read = refl
 
-pub sheet_passed : check_of sheet ≡ Passed
+pub sheet_passed : check_of sheet ≡ None
 unfolding check_of tandem_of listed grid_of not_nested overlaps lowest_crowded crowded too_many rates total crosses groups from_on from used any on
 sheet_passed = refl
 

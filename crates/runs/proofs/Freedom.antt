@@ -9,13 +9,12 @@
 --   Bytes stay in the line of every server at the record's end.
 --   Slot 0, the slots behind the record and the servers that the row does not have hold bytes that would break every premise: none is asked there.
 -- Assumes nothing.
-use Rattle.std.specs.Prelude.{ℕ, zero, suc, ◌≡◌, refl, List, [], ◌∷◌}
+use Rattle.std.specs.Prelude.{ℕ, zero, suc, ◌≡◌, refl, None, List, [], ◌∷◌}
 use Rattle.numbers.specs.Seven.{number_at}
 use Rattle.fields.specs.Rule.{rule_at, seen_after, field_at}
 use Rattle.fields.specs.Step.{step_on}
 use Rattle.sheet.specs.Sheet.{sheet_of, these}
 use Rattle.curves.specs.Slots.{bucket, serve}
-use Rattle.row.specs.declared.Check.TheVariants.{Passed}
 use Rattle.tandem.specs.Sums.{total, any}
 use Rattle.tandem.specs.Tandem.{crosses, on, rates}
 use Rattle.row.specs.Groups.{used, from, from_on, groups}
@@ -71,7 +70,7 @@ pub sheet_read : sheet_of sheet ≡ these sheet
 unfolding sheet_of step_on rule_at seen_after field_at number_at
 sheet_read = refl
 
-pub sheet_passed : check_of sheet ≡ Passed
+pub sheet_passed : check_of sheet ≡ None
 unfolding check_of tandem_of listed grid_of not_nested overlaps lowest_crowded crowded too_many rates total crosses groups from_on from used any on
 sheet_passed = refl
 

@@ -2,7 +2,7 @@
 -- from server 1; and the watched flow's burst has grown there. The run keeps every premise, so none of them asks more than that, and a
 -- watched byte leaves in the last slot that its bound allows.
 -- Assumes nothing.
-use Rattle.std.specs.Prelude.{ℕ, zero, suc, ◌≡◌, refl, cond, ltb}
+use Rattle.std.specs.Prelude.{ℕ, zero, suc, ◌≡◌, refl, cond, ltb, None}
 use mathlib.Core.List.{List, [], ◌∷◌, Memᴰ}
 use Rattle.std.proofs.Common.{arith}
 use Rattle.numbers.specs.Seven.{number_at}
@@ -11,7 +11,6 @@ use Rattle.fields.specs.Step.{step_on}
 use Rattle.sheet.specs.Sheet.{sheet_of, these}
 use Rattle.curves.specs.Slots.{bucket, serve}
 use Rattle.curves.specs.Curve.{neutral, joined, ceil, greatest, catch_up, least_wait, remainder, lateness, delay, server as serverShape}
-use Rattle.row.specs.declared.Check.TheVariants.{Passed}
 use Rattle.tandem.specs.Sums.{total, any}
 use Rattle.tandem.specs.Tandem.{crosses, on, bursts, rates}
 use Rattle.row.specs.Groups.{used, from, from_on, groups}
@@ -80,7 +79,7 @@ pub sheet_read : sheet_of sheet ≡ these sheet
 unfolding sheet_of step_on rule_at seen_after field_at number_at
 sheet_read = refl
 
-pub sheet_passed : check_of sheet ≡ Passed
+pub sheet_passed : check_of sheet ≡ None
 unfolding check_of tandem_of listed grid_of not_nested overlaps lowest_crowded crowded too_many rates total crosses groups from_on from used any on
 sheet_passed = refl
 

@@ -1,7 +1,7 @@
 -- The running greatest value before zeroing claims a delay that a run breaks; and the order of slots is a weaker premise than the order of bytes,
 -- under which the bound does not hold.
 -- Assumes nothing.
-use Rattle.std.specs.Prelude.{ℕ, zero, suc, ◌+◌, ◌-◌, ◌*◌, ◌≤◌, ◌<◌, max, ◌≡◌, refl, Bool, true, false, cond, ◌⊎◌, [], ◌∷◌, ltb, length}
+use Rattle.std.specs.Prelude.{ℕ, zero, suc, ◌+◌, ◌-◌, ◌*◌, ◌≤◌, ◌<◌, max, ◌≡◌, refl, Bool, true, false, cond, ◌⊎◌, [], ◌∷◌, ltb, length, None}
 use Rattle.std.proofs.Common.{inl, inr, arith}
 use Rattle.numbers.specs.Seven.{number_at}
 use Rattle.fields.specs.Rule.{rule_at, seen_after, field_at}
@@ -12,7 +12,6 @@ use Rattle.curves.specs.Slots.{bucket, serve, left, zero_up_to, Covers, Least}
 use Rattle.ground.proofs.OrderLaws.{le_or_lt}
 use Rattle.curves.proofs.SlotsLaws.{zero_before, zero_after}
 use Rattle.curves.specs.Curve.{neutral, joined, ceil, greatest, catch_up, least_wait, remainder, lateness, delay, server as serverShape}
-use Rattle.row.specs.declared.Check.TheVariants.{Passed}
 use Rattle.tandem.specs.Sums.{total, any}
 use Rattle.tandem.specs.Tandem.{Tandem, crosses, on, bursts, rates}
 use Rattle.row.specs.Groups.{put, used, from, from_on, groups}
@@ -74,7 +73,7 @@ pub burst_read : sheet_of burst_sheet ≡ these burst_sheet
 unfolding sheet_of step_on rule_at seen_after field_at number_at
 burst_read = refl
 
-pub burst_passed : check_of burst_sheet ≡ Passed
+pub burst_passed : check_of burst_sheet ≡ None
 unfolding check_of tandem_of listed grid_of not_nested overlaps lowest_crowded crowded too_many rates total crosses groups from_on from used any on
 burst_passed = refl
 
@@ -111,7 +110,7 @@ pub turn_read : sheet_of turn_sheet ≡ these turn_sheet
 unfolding sheet_of step_on rule_at seen_after field_at number_at
 turn_read = refl
 
-pub turn_passed : check_of turn_sheet ≡ Passed
+pub turn_passed : check_of turn_sheet ≡ None
 unfolding check_of tandem_of listed grid_of not_nested overlaps lowest_crowded crowded too_many rates total crosses groups from_on from used any on
 turn_passed = refl
 

@@ -1,7 +1,7 @@
 -- One run of P3 that keeps every premise, and in which a watched byte leaves one slot after it entered: the premises of demand 3 are no empty
 -- set, and its bound is reached.
 -- Assumes nothing.
-use Rattle.std.specs.Prelude.{ℕ, ◌≡◌, refl}
+use Rattle.std.specs.Prelude.{ℕ, ◌≡◌, refl, None}
 use mathlib.Core.List.{Memᴰ}
 use Rattle.std.proofs.Common.{arith}
 use Rattle.numbers.specs.Seven.{number_at}
@@ -10,7 +10,6 @@ use Rattle.fields.specs.Step.{step_on}
 use Rattle.sheet.specs.Sheet.{sheet_of, these}
 use Rattle.curves.specs.Slots.{bucket, serve}
 use Rattle.curves.specs.Curve.{neutral, joined, ceil, greatest, lateness, delay, server as serverShape}
-use Rattle.row.specs.declared.Check.TheVariants.{Passed}
 use Rattle.tandem.specs.Sums.{total, any}
 use Rattle.tandem.specs.Tandem.{crosses, on, rates}
 use Rattle.row.specs.Groups.{used, from, from_on, groups}
@@ -34,7 +33,7 @@ pub sheet_read : sheet_of sheet ≡ these sheet
 unfolding sheet_of step_on rule_at seen_after field_at number_at
 sheet_read = refl
 
-pub sheet_passed : check_of sheet ≡ Passed
+pub sheet_passed : check_of sheet ≡ None
 unfolding check_of tandem_of listed grid_of not_nested overlaps lowest_crowded crowded too_many rates total crosses groups from_on from used any on
 sheet_passed = refl
 

@@ -1,12 +1,7 @@
--- `desk::record_of` meets its contract. The invariant (`Recording`): the first numbers of the record stand at the front of the array. The
--- measure is how many waits are left.
+-- `desk::record_of` meets its contract: behind the first four numbers stand the waits passed.
 -- Assumes nothing.
-use Prim.Native.Nat.{◌-◌}
-use Rattle.desk.proofs.Recording.{Recording}
+use Rattle.std.proofs.Common.{◌≡◌, ◌∷◌, take}
 use Rattle.desk.proofs.record_of.Given as goal
 
-abbrev pub invariant-loop-i : goal.invariant-loop-i
-invariant-loop-i l = Recording l.a l.numbers l.i
-
-abbrev pub decreases-loop-i : goal.decreases-loop-i
-decreases-loop-i l = l.n - l.i
+abbrev pub invariant-loop-wait : goal.invariant-loop-wait
+invariant-loop-wait l = l.record.items ≡ l.found.bound ∷ l.found.start ∷ l.found.grid ∷ l.found.count ∷ take l.wait-index l.wait-items

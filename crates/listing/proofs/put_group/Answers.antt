@@ -1,28 +1,26 @@
 -- `listing::put_group` meets its contract: its three parts are put behind one another.
 -- Assumes nothing.
-use native.Mathlib.Omega.{arith}
-use Rattle.listing.specs.Text.{group_word, blank, wait_word, group_line}
 use Rattle.text.specs.Lines.{field, line}
-use Rattle.text.proofs.PutLaws.{put_long}
-use Rattle.listing.proofs.TextLaws.{group_length}
-use Rattle.listing.proofs.Putting.{put_three}
+use Rattle.text.proofs.PutLaws.{room_first, room_then, written_then}
+use Rattle.listing.specs.Text.{group_word, blank, wait_word, group_line}
 use Rattle.listing.proofs.put_group.Goals as goal
 
-pub put_field-behind-requires : goal.put_field-behind-requires
-put_field-behind-requires c = omega (arith, c.requires, group_length c.args.first c.args.last c.args.wait)
+pub put_field-requires : goal.put_field-requires
+unfolding group_line
+put_field-requires c = room_first (field group_word c.args.group.now.first) _ c.args.page.now c.requires
 
-pub put_field-path-requires : goal.put_field-path-requires
-put_field-path-requires c =
-    let l = put_long (field group_word c.args.first) c.args.page.now c.args.at c.put_field-behind.ensures in
-    omega (arith, c.requires, group_length c.args.first c.args.last c.args.wait, c.put_field-behind.ensures.next, l)
+pub put_field-requires-2 : goal.put_field-requires-2
+unfolding group_line
+put_field-requires-2 c =
+    room_first (field blank c.args.group.now.last) (line wait_word c.args.wait) c.put_field.new.self
+    (room_then (field group_word c.args.group.now.first) _ c.put_field.ensures c.requires)
 
 pub put_line-requires : goal.put_line-requires
+unfolding group_line
 put_line-requires c =
-    let l = put_long (field group_word c.args.first) c.args.page.now c.args.at c.put_field-behind.ensures in
-    let m = put_long (field blank c.args.last) _ c.put_field-behind.result c.put_field-path.ensures in
-    omega (arith, c.requires, group_length c.args.first c.args.last c.args.wait, c.put_field-behind.ensures.next, c.put_field-path.ensures.next, l, m)
+    room_then (field blank c.args.group.now.last) (line wait_word c.args.wait) c.put_field-2.ensures
+    (room_then (field group_word c.args.group.now.first) _ c.put_field.ensures c.requires)
 
 pub returns : goal.returns
 unfolding group_line
-returns c =
-    put_three (field group_word c.args.first) (field blank c.args.last) (line wait_word c.args.wait) c.args.page.now c.args.at c.put_field-behind.ensures c.put_field-path.ensures c.put_line.ensures
+returns c = written_then c.put_field.ensures (written_then c.put_field-2.ensures c.put_line.ensures)

@@ -1,47 +1,24 @@
-use mathlib.Core.Path.{◌≡◌}
-use native.Mathlib.Omega.{arith}
-use lib.ListN.{length}
-use Rattle.listing.proofs.Putting.{begin_filling, fits, turn_filling, filled}
+use Rattle.std.specs.Prelude.{refl, ◌≡◌, drop}
+use Rattle.std.proofs.Common.{arith, length-drop, ◌∙◌}
+use Rattle.std.proofs.lemmas.Grind.{common_steps}
+use Rattle.std.proofs.lemmas.List.{take_all}
+use Rattle.std.specs.Iterator.Adapters.{take_source}
+use Rattle.std.specs.Slice.Iter.{iter_rest}
+use Rattle.std.proofs.lemmas.Slice.Zip.{either_empty_from_Zip}
+use Rattle.listing.proofs.Putting.{begin_filling, turn_room, turn, filled}
 use Rattle.listing.proofs.put_groups.Goals as goal
 
-pub loop-i-init : goal.loop-i-init
-loop-i-init c = begin_filling _ _ _ _ _
+pub loop-group-init : goal.loop-group-init
+loop-group-init c =
+    let rest : iter_rest c.iter.result ≡ drop 1 c.args.found.now.groups = c.iter.ensures.rest ∙ take_all 31 _ (omega (arith, length-drop 1 c.args.found.now.groups)) in
+    begin_filling c.args.page.now (cc) (grind (arith, common_steps))
 
-pub overflow_add-k : goal.overflow_add-k
-overflow_add-k c = omega (arith, c.requires.few, c.loop-i-test.true)
+pub put_group-requires : goal.put_group-requires
+put_group-requires c = let steps = c.in-Some.ensures.steps in turn_room _ _ _ c.loop-group.invariant steps.0.0 steps.0.1 steps.1 c.requires
 
-pub offset_bounds-found-k : goal.offset_bounds-found-k
-offset_bounds-found-k c = omega (arith, c.requires.few, c.loop-i-test.true)
-
-pub bounds-found-k : goal.bounds-found-k
-bounds-found-k c = omega (arith, c.requires.few, c.loop-i-test.true)
-
-pub offset_bounds-found-i : goal.offset_bounds-found-i
-offset_bounds-found-i c = omega (arith, c.requires.few, c.loop-i-test.true)
-
-pub bounds-found-i : goal.bounds-found-i
-bounds-found-i c = omega (arith, c.requires.few, c.loop-i-test.true)
-
-pub put_group-at-requires : goal.put_group-at-requires
-put_group-at-requires c =
-    let groups-full : length c.args.found.groups ≡ 32 = omega arith in
-    let waits-full : length c.args.found.waits ≡ 32 = omega arith in
-    fits c.loop-i.invariant c.loop-i-test.true (omega (arith, groups-full, c.requires.few, c.loop-i-test.true)) (omega (arith, waits-full, c.requires.few, c.loop-i-test.true)) c.requires.room
-
-pub overflow_add-i : goal.overflow_add-i
-overflow_add-i c = omega (arith, c.requires.few, c.loop-i-test.true)
-
-pub loop-i-smaller : goal.loop-i-smaller
-loop-i-smaller c = omega (arith, c.loop-i-test.true)
-
-pub loop-i-preserved : goal.loop-i-preserved
-loop-i-preserved c =
-    let groups-full : length c.args.found.groups ≡ 32 = omega arith in
-    let waits-full : length c.args.found.waits ≡ 32 = omega arith in
-    turn_filling c.loop-i.invariant c.loop-i-test.true (omega (arith, groups-full, c.requires.few, c.loop-i-test.true)) (omega (arith, waits-full, c.requires.few, c.loop-i-test.true)) c.put_group-at.ensures
-
-pub shape_of-page : goal.shape_of-page
-shape_of-page c = c.loop-i.invariant.long
+pub loop-group-preserved : goal.loop-group-preserved
+loop-group-preserved c = let steps = c.in-Some.ensures.steps in turn _ _ _ c.loop-group.invariant steps.0.0 steps.0.1 steps.1 c.put_group.ensures
 
 pub returns : goal.returns
-returns c = filled c.loop-i.invariant c.loop-i-test.false
+returns c =
+    filled c.loop-group.invariant (λ h. either_empty_from_Zip (take_source c.loop-group.group-iterator) (take_source c.next.new.self) _ refl (c.in-None.ensures.steps h))
