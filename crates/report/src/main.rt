@@ -3,34 +3,16 @@
 
 #![tactic(auto)]
 
-ghost use Rattle.std.specs.Io.{ReadsAtMost};
-
 use std::io;
-use std::io::{Read, Write};
-use text::Printed;
-
-// Reads until the buffer is full or the input ends, and gives how many bytes stand at the buffer's start.
-fn fill(input: &mut impl Read, bytes: &mut [u8]) -> io::Result<usize>
-    ensures { ReadsAtMost result bytes.new }
-{
-    let mut n: usize = 0;
-    while n < bytes.len() {
-        let got = input.read(&mut bytes[n..])?;
-        if got == 0 {
-            break;
-        }
-        n += got;
-    }
-    Ok(n)
-}
+use std::io::Write;
 
 // Takes at most the first 1,024 bytes of standard input, and prints the report of the sheet they are.
 fn main(rt: HostRuntime) -> io::Result<()> {
     let mut bytes = [0u8; 1024];
     let mut text = [0u8; listing::PAGE];
-    let n = fill(&mut rt.stdin(), &mut bytes)?;
+    let n = intake::fill(&mut rt.stdin(), &mut bytes)?;
     match listing::report(&bytes[..n], &mut text) {
-        Printed::Answer(m) => rt.stdout().write_all(&text[..m]),
-        Printed::Refusal(m) => rt.stderr().write_all(&text[..m]),
+        Ok(length) => rt.stdout().write_all(&text[..length]),
+        Err(refused) => rt.stderr().write_all(&text[..refused.length]),
     }
 }

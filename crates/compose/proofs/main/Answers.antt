@@ -6,13 +6,13 @@ use Rattle.composing.proofs.ComposedLaws.{compose_fits}
 use Rattle.compose.proofs.main.Goals as goal
 
 pub slice_bounds-out-end : goal.slice_bounds-out-end
-slice_bounds-out-end c = omega (arith, ap bytes_of c.in-Answer.is, compose_fits c.compose.ensures, c.compose.auto.out)
+slice_bounds-out-end c = omega (arith, ap bytes_of c.in-Ok.is, compose_fits c.compose.ensures, c.compose.auto.out)
 
 pub slice_bounds-write_all-end : goal.slice_bounds-write_all-end
-slice_bounds-write_all-end c = sym (length-take-le _ _ (omega (arith, ap bytes_of c.in-Answer.is, compose_fits c.compose.ensures, c.compose.auto.out)))
+slice_bounds-write_all-end c = sym (length-take-le _ _ (omega (arith, ap bytes_of c.in-Ok.is, compose_fits c.compose.ensures, c.compose.auto.out)))
 
-pub slice_bounds-out-end-in-Refusal : goal.slice_bounds-out-end-in-Refusal
-slice_bounds-out-end-in-Refusal c = omega (arith, ap bytes_of c.in-Refusal.is, compose_fits c.compose.ensures, c.compose.auto.out)
+pub slice_bounds-out-end-in-Err : goal.slice_bounds-out-end-in-Err
+slice_bounds-out-end-in-Err c = omega (arith, ap bytes_of c.in-Err.is, compose_fits c.compose.ensures, c.compose.auto.out)
 
-pub slice_bounds-write_all-end-in-Refusal : goal.slice_bounds-write_all-end-in-Refusal
-slice_bounds-write_all-end-in-Refusal c = sym (length-take-le _ _ (omega (arith, ap bytes_of c.in-Refusal.is, compose_fits c.compose.ensures, c.compose.auto.out)))
+pub slice_bounds-write_all-end-in-Err : goal.slice_bounds-write_all-end-in-Err
+slice_bounds-write_all-end-in-Err c = sym (length-take-le _ _ (omega (arith, ap bytes_of c.in-Err.is, compose_fits c.compose.ensures, c.compose.auto.out)))

@@ -6,13 +6,13 @@ use Rattle.listing.proofs.HeldLaws.{report_fits}
 use Rattle.report.proofs.main.Goals as goal
 
 pub slice_bounds-text-end : goal.slice_bounds-text-end
-slice_bounds-text-end c = omega (arith, ap bytes_of c.in-Answer.is, report_fits c.report.ensures, c.report.auto.text)
+slice_bounds-text-end c = omega (arith, ap bytes_of c.in-Ok.is, report_fits c.report.ensures, c.report.auto.text)
 
 pub slice_bounds-write_all-end : goal.slice_bounds-write_all-end
-slice_bounds-write_all-end c = sym (length-take-le _ _ (omega (arith, ap bytes_of c.in-Answer.is, report_fits c.report.ensures, c.report.auto.text)))
+slice_bounds-write_all-end c = sym (length-take-le _ _ (omega (arith, ap bytes_of c.in-Ok.is, report_fits c.report.ensures, c.report.auto.text)))
 
-pub slice_bounds-text-end-in-Refusal : goal.slice_bounds-text-end-in-Refusal
-slice_bounds-text-end-in-Refusal c = omega (arith, ap bytes_of c.in-Refusal.is, report_fits c.report.ensures, c.report.auto.text)
+pub slice_bounds-text-end-in-Err : goal.slice_bounds-text-end-in-Err
+slice_bounds-text-end-in-Err c = omega (arith, ap bytes_of c.in-Err.is, report_fits c.report.ensures, c.report.auto.text)
 
-pub slice_bounds-write_all-end-in-Refusal : goal.slice_bounds-write_all-end-in-Refusal
-slice_bounds-write_all-end-in-Refusal c = sym (length-take-le _ _ (omega (arith, ap bytes_of c.in-Refusal.is, report_fits c.report.ensures, c.report.auto.text)))
+pub slice_bounds-write_all-end-in-Err : goal.slice_bounds-write_all-end-in-Err
+slice_bounds-write_all-end-in-Err c = sym (length-take-le _ _ (omega (arith, ap bytes_of c.in-Err.is, report_fits c.report.ensures, c.report.auto.text)))
