@@ -22,3 +22,32 @@ pub fn fill<R: Read>(input: &mut R, bytes: &mut [u8]) -> io::Result<usize>
     }
     Ok(n)
 }
+
+#[cfg(test)]
+mod tests {
+    use super::*;
+    use std::test::Fail;
+
+    // Of more bytes than there is room for, the first are taken, and the others are left.
+    #[test]
+    fn fills_the_room(rt: HostRuntime) -> Result<(), Fail> {
+        let mut input: &[u8] = &[1, 2, 3, 4, 5];
+        let mut bytes = [0u8; 3];
+        let n = fill(&mut input, &mut bytes)?;
+        assert_eq!(rt; n, 3);
+        assert_eq!(rt; bytes, [1, 2, 3]);
+        assert_eq!(rt; input.len(), 2);
+        Ok(())
+    }
+
+    // Of fewer, all are taken, and what stands behind them stays.
+    #[test]
+    fn stops_at_the_end(rt: HostRuntime) -> Result<(), Fail> {
+        let mut input: &[u8] = &[1, 2];
+        let mut bytes = [9u8; 4];
+        let n = fill(&mut input, &mut bytes)?;
+        assert_eq!(rt; n, 2);
+        assert_eq!(rt; bytes, [1, 2, 9, 9]);
+        Ok(())
+    }
+}
