@@ -59,10 +59,10 @@ fn several(bytes: &[u8], at: usize, first: u64) -> Result<(u32, usize), Fault>
 {
     let mut weight: u64 = 128;
     let mut sum = first;
-    for p in at + 1..at + 4 {
-        let b = group_at(bytes, p)?;
+    for i in 1..4 {
+        let b = group_at(bytes, at + i)?;
         if b < 128 {
-            return settle(sum + b * weight, b, p + 1);
+            return settle(sum + b * weight, b, at + i + 1);
         }
         sum += (b - 128) * weight;
         weight *= 128;

@@ -1,14 +1,5 @@
 -- Where the reader of a text stands between two bytes, and what a byte makes of it.
 -- Assumes nothing.
-use denote.Ref.{Bor}
-use Rattle.std.specs.Iterator.{Yields}
-use Rattle.std.specs.Iterator.Adapters.{chain_steps}
-use Rattle.std.specs.Slice.Iter.{iter_rest}
-use Rattle.std.specs.declared.iter.Chain.{Chain}
-use Rattle.std.specs.declared.slice.Iter.{Iter}
-use Rattle.std.proofs.iter.Yields.{fronts}
-use Rattle.std.proofs.lemmas.Iterator.{YieldsList, YieldsList-from_slice}
-use Rattle.std.proofs.lemmas.Iterator.Consumers.{YieldsList-from_chain, YieldsList-turn, YieldsList-end}
 use Prim.Native.Nat.{ℕ, zero, suc, ◌+◌, ◌≤◌, ◌<◌}
 use Rattle.scribe.specs.declared.Mistake.{Mistake}
 use Rattle.scribe.specs.Contract.{NumbersOfText}
@@ -17,14 +8,15 @@ use mathlib.Core.List.{List, [], ◌∷◌, ◌++◌}
 use mathlib.Core.Bool.{Bool, true, false, cond}
 use native.Mathlib.Numerals.{add-one}
 use native.Mathlib.Omega.{arith}
-use lib.ListN.{length, get_or, set, drop, length-append, drop_of_length-le}
-use lib.Seq.{sets, length-sets, drop-cons}
+use lib.ListN.{length, get_or, set, drop, length-append}
+use lib.Seq.{sets, length-sets}
 use lib.Dec.{eqb}
 use Rattle.scribe.specs.declared.Mark.{Mark}
 use Rattle.scribe.specs.declared.Mark.TheVariants.{Between}
 use Rattle.scribe.specs.declared.Slip.{Slip}
 use Rattle.scribe.specs.declared.Slip.TheVariants.{Many}
-use Rattle.std.specs.Prelude.{Option, None, Some, Result, Ok, Err}
+use Rattle.std.specs.Prelude.{None, Some, Result, Ok, Err}
+use Rattle.scribe.proofs.TextLaws.{byte_behind, none_behind}
 use Rattle.scribe.specs.Text.{Said, these, wrong, also, turn_of, line_after, text_from, text_of, gives_text, numbers_in}
 
 -- numbers that stand before what is still to be read
@@ -76,28 +68,8 @@ pub record At (text : List ℕ) (i b : ℕ) : Type 0 where
   pub is : drop i (text ++ (10 ∷ [])) ≡ b ∷ drop (i + 1) (text ++ (10 ∷ []))
   pub within : i ≤ length text
 
-at_place : (text : List ℕ) (i b : ℕ) → (i < length (text ++ (10 ∷ []))) × (b ≡ get_or (text ++ (10 ∷ [])) i b) → At text i b
-at_place text i b t =
-    let h : i < length (text ++ (10 ∷ [])) = t.0 in
-    record { is = rw (add-one i, drop-cons (text ++ (10 ∷ [])) i b h, ← t.1); within = omega (arith, length-append text (10 ∷ [])) }
-
--- an iterator over the bytes of a text with the line end behind it
-pub record Bytes (text : List ℕ) (s : Chain (Iter ℕ) (Iter ℕ)) : Type 0 where
-  pub first : iter_rest s.a ≡ text
-  pub second : iter_rest s.b ≡ 10 ∷ []
-  pub begun : s.a_done ≡ false
-  pub open_end : s.b_done ≡ false
-
-module _ {text : List ℕ} {s : Chain (Iter ℕ) (Iter ℕ)} (g : Bytes text s) where
-  all : YieldsList (chain_steps fronts fronts) (λ (b : Bor ℕ). b.now) s (text ++ (10 ∷ []))
-  all = YieldsList-from_chain (YieldsList-from_slice text g.first) (YieldsList-from_slice (10 ∷ []) g.second) g.begun g.open_end
-
-  module _ (xs : List (Bor ℕ)) (t : Chain (Iter ℕ) (Iter ℕ)) (y : Yields (chain_steps fronts fronts) s xs t) (u : Chain (Iter ℕ) (Iter ℕ)) where
-    pub at_turn : {r : Option (Bor ℕ)} {b : Bor ℕ} → r ≡ Some b → chain_steps fronts fronts t r u → At text (length xs) b.now
-    at_turn {r} {b} e h = at_place text (length xs) b.now (YieldsList-turn all xs t y r u b e h)
-
-    pub all_read : {r : Option (Bor ℕ)} → r ≡ None → chain_steps fronts fronts t r u → length xs ≡ length (text ++ (10 ∷ []))
-    all_read {r} e h = (YieldsList-end all xs t y r u e h).1
+pub at_byte : (text : List ℕ) (i b : ℕ) → i ≤ length text → b ≡ get_or text i 10 → At text i b
+at_byte text i b h e = record { is = rw (byte_behind text i h, e, add-one i); within = h }
 
 -- what the function promises where the text says this
 told : (text first numbers : List ℕ) (said : Said) (xs : List ℕ) (r : Result ℕ Mistake) → text_of (length first) text ≡ said → numbers_in said ≡ xs
@@ -157,7 +129,6 @@ module _ {text first numbers : List ℕ} {mark : Mark} {line n i : ℕ} (g : Rea
   slips {b} {s} a t =
       told text first numbers (wrong g.done s line) g.done _ (g.same ∙ rw (a.is, t) (before_wrong g.done s line)) refl g.holds refl
 
-  pub ends : i ≡ length (text ++ (10 ∷ [])) → NumbersOfText text first (Ok n) numbers
-  ends e =
-      told text first numbers (these g.done) g.done _
-      (let d : drop i (text ++ (10 ∷ [])) ≡ [] = drop_of_length-le (text ++ (10 ∷ [])) (omega arith) in g.same ∙ rw d (before_these g.done)) refl g.holds (ap Ok g.count)
+  pub ends : length text < i → NumbersOfText text first (Ok n) numbers
+  ends h =
+      told text first numbers (these g.done) g.done _ (g.same ∙ rw (none_behind text i h) (before_these g.done)) refl g.holds (ap Ok g.count)

@@ -103,7 +103,8 @@ pub fn numbers_of_text(text: &[u8], numbers: &mut [u32]) -> Result<usize, Mistak
     let mut mark = Mark::Between;
     let mut line = 1;
     let mut n = 0;
-    for &b in text.iter().chain(b"\n") {
+    for i in 0..text.len() + 1 {
+        let b = text.get(i).copied().unwrap_or(b'\n');
         let (ended, next) = turn_of(mark, b).map_err(|slip| Mistake { slip, line })?;
         if let Some(x) = ended {
             if numbers.len() <= n {
