@@ -180,11 +180,16 @@ fn next_case(input: &mut impl Read, rt: &impl Print) -> Result<(), Halt> {
     run_case(rt, letter, bytes, room)
 }
 
-// Runs the cases of the input, of which there are as many as it says.
-fn run_cases(input: &mut impl Read, rt: &impl Print) -> Result<(), Halt> {
+// How many cases the input says that it has.
+fn count_of(input: &mut impl Read) -> Result<u32, Halt> {
     let mut count = [0u8; 4];
     fill(input, &mut count, "the number of cases is cut")?;
-    for _ in 0..u32::from_le_bytes(count) {
+    Ok(u32::from_le_bytes(count))
+}
+
+// Runs that many cases of the input.
+fn run_cases(input: &mut impl Read, rt: &impl Print, count: u32) -> Result<(), Halt> {
+    for _ in 0..count {
         next_case(input, rt)?;
     }
     Ok(())
@@ -207,9 +212,15 @@ fn report(rt: &impl Print, outcome: Result<(), Halt>) -> io::Result<()> {
     }
 }
 
-// Runs all cases, or those up to the first that cannot be run, and says so if something is left behind them.
+// Runs all cases, or those up to the first that cannot be run, and says so if something is left behind them. Of an input that ends before it
+// has said how many they are, nothing more is read.
 fn main(rt: HostRuntime) -> io::Result<()> {
     let mut input = rt.stdin();
-    report(&rt, run_cases(&mut input, &rt))?;
-    report(&rt, expect_end(&mut input))
+    match count_of(&mut input) {
+        Ok(count) => {
+            report(&rt, run_cases(&mut input, &rt, count))?;
+            report(&rt, expect_end(&mut input))
+        }
+        Err(halt) => report(&rt, Err(halt)),
+    }
 }
