@@ -1,11 +1,13 @@
 -- The row of a valid sheet that passes the checks is accepted and within the limits, and which check stands first.
 -- Assumes nothing.
-use Rattle.std.specs.Prelude.{◌≡◌, refl, Bool, true, false, cond, Some, None, List, ◌++◌, ◌⊎◌, ℕ, ◌≤◌, ◌<◌, ltb, eqb, length}
-use Rattle.std.proofs.Common.{inl, inr, arith}
+use Rattle.std.specs.Prelude.{◌≡◌, refl, Bool, true, false, cond, Some, None, List, ◌++◌, take, ◌⊎◌, ℕ, ◌≤◌, ◌<◌, ltb, eqb, length}
+use Rattle.std.proofs.Common.{sym, subst, inl, inr, arith}
 use borrow.Author.Tests.{lt-ltb, ltb-false, eqb-false}
 use Rattle.sheet.specs.Valid.{Valid, Within, server_count, mode, grid}
 use Rattle.row.specs.declared.Unfit.TheVariants.{Crossing, Crowded, Points}
-use Rattle.tandem.specs.Tandem.{size}
+use Rattle.tandem.specs.declared.Server.{Server}
+use Rattle.tandem.specs.declared.Flow.{Flow}
+use Rattle.tandem.specs.Tandem.{Tandem, size}
 use Rattle.row.specs.Groups.{groups}
 use Rattle.tandem.specs.Crowded.{lowest_crowded}
 use Rattle.row.specs.Checks.{not_nested, too_many}
@@ -17,8 +19,10 @@ use Rattle.row.specs.Passed.{PassedRow}
 use Rattle.row.proofs.CheckLaws.{accepted_row}
 use Rattle.tandem.proofs.OfSheetLaws.{limits, sound}
 use Rattle.tandem.specs.Lent.{tandem_in, spread_servers, spread_flows, Handed}
-use Rattle.tandem.proofs.LentLaws.{sheet_spread, sheet_room, sheet_lent, lent_handed}
+use Rattle.tandem.proofs.LentLaws.{sheet_spread, sheet_room, sheet_lent, lent_handed, sheet_handed}
 use Rattle.row.specs.Parts.{Formable}
+use Rattle.row.specs.Contract.{FormAsks}
+use Rattle.row.proofs.Answers.{fronts_held}
 
 pub accepted : (xs : List ℕ) → Valid xs → not_nested (tandem_of xs) ≡ false → lowest_crowded (tandem_of xs) 1 (size (tandem_of xs)) ≡ 0 → Accepted (tandem_of xs)
 accepted xs v n c = accepted_row (tandem_of xs) (sound xs v c) n
@@ -90,3 +94,11 @@ sheet_formable xs servers flows more rest v s f c =
     let room = sheet_room xs servers flows more rest s f in
     let g = grid_range xs v in
     record { lent = sheet_lent xs servers flows v is room.0 room.1 c; coarse = g.0; dense = g.1 }
+
+-- what `form` asks holds of the slices into which a valid sheet's servers and flows were listed, whatever stands behind them, if it passes 7
+pub sheet_form_asked : (xs : List ℕ) (servers more : List Server) (flows rest : List Flow) → Valid xs → servers ≡ (tandem_of xs).servers ++ more
+    → flows ≡ (tandem_of xs).flows ++ rest → lowest_crowded (tandem_of xs) 1 (size (tandem_of xs)) ≡ 0
+    → FormAsks (take (server_count xs) servers) (take (length (tandem_of xs).flows) flows)
+sheet_form_asked xs servers more flows rest v s f c =
+    subst (λ (row : Tandem). FormAsks row.servers row.flows)
+    (sym (fronts_held xs servers more flows rest (server_count xs) (length (tandem_of xs).flows) s f refl refl)) (sheet_handed xs v c)

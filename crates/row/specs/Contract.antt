@@ -3,7 +3,7 @@
 use Rattle.std.specs.Prelude.{◌≡◌, Bool, Result, List, [], length, ℕ}
 use Rattle.tandem.specs.declared.Server.{Server}
 use Rattle.tandem.specs.declared.Flow.{Flow}
-use Rattle.tandem.specs.Lent.{row_in}
+use Rattle.tandem.specs.Lent.{row_in, Handed}
 use Rattle.row.specs.declared.Row.{Row}
 use Rattle.row.specs.declared.Unfit.{Unfit}
 use Rattle.row.specs.Checks.{not_nested}
@@ -20,6 +20,10 @@ pub record ReachesOf (flows : List Flow) (r : List ℕ) : Type 0 where
 pub record IsNotNested (flows : List Flow) (r : Bool) : Type 0 where
   -- 6: "the row is not nested"
   pub is : r ≡ not_nested (row_in [] flows)
+
+-- what `form` asks of the servers and flows: a row that may be formed
+abbrev pub FormAsks : List Server → List Flow → Type 0
+FormAsks servers flows = Handed (row_in servers flows)
 
 -- `form`
 pub record Form (servers : List Server) (flows : List Flow) (mode grid : ℕ) (r : Result Row Unfit) : Type 0 where

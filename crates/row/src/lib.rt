@@ -12,7 +12,7 @@ ghost use Rattle.row.specs.OfSheet.{grid_of};
 ghost use Rattle.row.specs.Parts.{Reached, overreached_by, place_of, Summed, with_group, with_groups, Listing};
 ghost use Rattle.row.specs.OneReached.{one_reached};
 ghost use Rattle.row.specs.Refused.{refusal_for};
-ghost use Rattle.row.specs.Contract.{ReachesOf, IsNotNested, Form, RowOf};
+ghost use Rattle.row.specs.Contract.{ReachesOf, IsNotNested, FormAsks, Form, RowOf};
 
 use fields::{Refusal, Why};
 use tandem::{Flow, Server, Sheet};
@@ -237,7 +237,7 @@ impl<'a> Nested<'a> {
 
 // Checks 6 and 8 of a row whose rates fit, and the row.
 pub fn form(servers: &[Server], flows: &[Flow], mode: u32, grid: usize) -> Result<Row, Unfit>
-    requires { Handed (row_in servers.now flows.now) }
+    requires { FormAsks servers.now flows.now }
     ensures { Form servers.now flows.now mode grid result }
 {
     Nested::of(servers, flows)?.form(mode, grid)
