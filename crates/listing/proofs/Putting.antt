@@ -16,9 +16,9 @@ pub record Filling (all : List ℕ) (n : ℕ) (groups : List Flow) (waits : List
   pub whole : lines ++ lines_of n groups waits ≡ all
   pub enough : length groups ≤ length waits
 
-pub begin_filling : {all : List ℕ} {n : ℕ} {groups : List Flow} {waits : List ℕ} (page : Page) → lines_of n groups waits ≡ all → length groups ≤ length waits
-    → Filling all n groups waits page page
-begin_filling page e l = record { lines = []; written = written_none page; whole = e; enough = l }
+pub begin_filling : {n m : ℕ} {groups gs : List Flow} {waits ws : List ℕ} (page : Page) → n ≡ m → groups ≡ gs → waits ≡ ws → length groups ≤ length waits
+    → Filling (lines_of m gs ws) n groups waits page page
+begin_filling page count firsts seconds l = record { lines = []; written = written_none page; whole = rw (count, firsts, seconds) refl; enough = l }
 
 -- a group's line, with its wait
 abbrev pub line_of : Flow → ℕ → List ℕ

@@ -11,7 +11,7 @@ use Rattle.listing.proofs.put_groups.Goals as goal
 pub loop-group-init : goal.loop-group-init
 loop-group-init c =
     let rest : iter_rest c.iter.result ≡ drop 1 c.args.found.now.groups = c.iter.ensures.rest ∙ take_all 31 _ (omega (arith, length-drop 1 c.args.found.now.groups)) in
-    begin_filling c.args.page.now (cc) (grind (arith, common_steps))
+    begin_filling c.args.page.now (grind (arith, common_steps)) (cc) (grind (arith, common_steps)) (grind (arith, common_steps))
 
 pub put_group-requires : goal.put_group-requires
 put_group-requires c = let steps = c.in-Some.ensures.steps in turn_room _ _ _ c.loop-group.invariant steps.0.0 steps.0.1 steps.1 c.requires
