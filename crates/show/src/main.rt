@@ -9,10 +9,12 @@ use std::io::Write;
 // Takes at most the first 1,024 bytes of standard input, and prints the text of the sheet they are.
 fn main(rt: HostRuntime) -> io::Result<()> {
     let mut bytes = [0u8; 1024];
-    let mut text = [0u8; showing::PAGE];
+    let mut page = [0u8; showing::PAGE];
     let n = intake::fill(&mut rt.stdin(), &mut bytes)?;
-    match showing::show(&bytes[..n], &mut text) {
-        Ok(length) => rt.stdout().write_all(&text[..length]),
-        Err(refused) => rt.stderr().write_all(&text[..refused.length]),
+    let printed = showing::show(&bytes[..n], &mut page);
+    let output = &page[..text::bytes_of(printed)];
+    match printed {
+        Ok(_) => rt.stdout().write_all(output),
+        Err(_) => rt.stderr().write_all(output),
     }
 }
