@@ -8,11 +8,13 @@ use std::io::Write;
 
 // Composes the text of standard input; one byte more than a text may have is taken, so that one that is too long is told.
 fn main(rt: HostRuntime) -> io::Result<()> {
-    let mut text = [0u8; 16385];
-    let mut out = [0u8; composing::PAGE];
-    let n = intake::fill(&mut rt.stdin(), &mut text)?;
-    match composing::compose(&text[..n], &mut out) {
-        Ok(length) => rt.stdout().write_all(&out[..length]),
-        Err(refused) => rt.stderr().write_all(&out[..refused.length]),
+    let mut bytes = [0u8; 16385];
+    let mut page = [0u8; composing::PAGE];
+    let n = intake::fill(&mut rt.stdin(), &mut bytes)?;
+    let printed = composing::compose(&bytes[..n], &mut page);
+    let output = &page[..text::bytes_of(printed)];
+    match printed {
+        Ok(_) => rt.stdout().write_all(output),
+        Err(_) => rt.stderr().write_all(output),
     }
 }
