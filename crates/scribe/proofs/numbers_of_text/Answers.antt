@@ -24,10 +24,10 @@ pub loop-i-preserved : goal.loop-i-preserved
 loop-i-preserved c =
     let t : At c.args.text.now c.loop-i.i c.unwrap_or-b.result = at_byte _ _ _ (omega (arith, c.loop-i-test.true)) (search rules) in
     rw c.line_after-line.ensures
-        (elim c.match-ended.branch [
-          | in-Some+else-numbers-n w ↦ rw (w.numbers-is, w.n-is) (take_number c.loop-i.invariant t (search rules) w.if-numbers-n.false)
-          | in_default w ↦ rw (w.numbers-is, w.n-is) (go_on c.loop-i.invariant t (search rules))
-        ])
+    (elim c.match-ended.branch [
+      | in-Some+else-numbers-n w ↦ rw (w.numbers-is, w.n-is) (take_number c.loop-i.invariant t (search rules) w.if-numbers-n.false)
+      | in_default w ↦ rw (w.numbers-is, w.n-is) (go_on c.loop-i.invariant t (search rules))
+    ])
 
 pub returns : goal.returns
 returns c = ends c.loop-i.invariant (omega (arith, c.loop-i-test.false))
