@@ -1,13 +1,14 @@
 -- Bytes that are put behind one another are put as a whole at the first place; the same of what is written on a page.
 -- Assumes nothing.
-use Rattle.std.specs.Prelude.{ℕ, ◌+◌, ◌≤◌, ◌≡◌, refl, List, [], ◌++◌, length, take, drop}
+use Rattle.std.specs.Prelude.{ℕ, ◌+◌, ◌-◌, ◌≤◌, ◌≡◌, refl, List, [], ◌++◌, length, take, drop}
 use Rattle.std.proofs.lemmas.List.Edits.{sets, sets-eq}
 use borrow.Rule.Slice.PartMut.{put_mid}
 use Rattle.std.proofs.Common.{ap, ◌∙◌, append_assoc, arith, length-append, drop-drop}
 use Rattle.std.proofs.Math.Seq.{length-sets}
 use Rattle.ground.proofs.BufferLaws.{sets_append, stored_front}
 use Rattle.text.specs.declared.Page.{Page}
-use Rattle.text.specs.Contract.{Put, Room, Written, HandOver}
+use Rattle.text.specs.Decimal.{decimal}
+use Rattle.text.specs.Contract.{DecimalWidth, Put, Room, Written, HandOver}
 
 pub put_then : (a b before : List ℕ) (at : ℕ) {mid after : List ℕ} {p r : ℕ} → Put a before at p mid → Put b mid p r after → Put (a ++ b) before at r after
 put_then a b before at {mid} {after} {p} {r} x y =
@@ -50,6 +51,10 @@ written_none page = record { put = put_none page.bytes.now page.at; same = refl;
 pub put_into : {bytes : List ℕ} {before after : Page} {held : List ℕ} → Written bytes before after → held ≡ after.bytes.now
     → Put bytes before.bytes.now before.at after.at held
 put_into x e = record { next = x.put.next; stored = e ∙ x.put.stored }
+
+-- a number's digits take as many places of a page as its width says
+pub decimal_takes : {x : ℕ} {before after : Page} → Written (decimal x) before after → DecimalWidth x (after.at - before.at)
+decimal_takes w = record { is = omega (arith, w.put.next) }
 
 -- a page goes on within its buffer
 pub within : {bytes : List ℕ} {before after : Page} → Written bytes before after → Room bytes before → after.at ≤ length after.bytes.now
